@@ -15,6 +15,9 @@ pub record Board : Type 0 where
   pub wide : ℕ
   pub w : ℕ
 
+unfoldable pub board : (p n wide w : ℕ) → Board
+board p n m w = record { p = p; n = n; wide = m; w = w }
+
 unfoldable pub columns : Board → ℕ
 columns b = 2 ^ (b .p - 1)
 

@@ -7,7 +7,7 @@ use Prim.Native.Nat.{ℕ, zero, suc, _+_, _*_, _-_, _/_, _%_, _^_, _≤_, _<_, m
 use lib.Dec.{ltb, leb, eqb}
 use lib.ListN.{length, getD, set, take, drop, replicate}
 use Rattle.xor.specs.Xor.{xors, zeros}
-use Rattle.grid.specs.Grid.{Board, columns, grid-rows, row-long, board-refusal, Dealing, arrays-good, all-words, bit, cell}
+use Rattle.grid.specs.Grid.{Board, board, columns, grid-rows, row-long, board-refusal, Dealing, arrays-good, all-words, bit, cell}
 
 -- numbers in groups of seven bits, lowest first, shortest form, at most three groups
 unfoldable pub groups : (fuel v : ℕ) → List ℕ
@@ -47,9 +47,6 @@ pub record Head : Type 0 where
   pub board : Board
   pub player : ℕ
   pub rest : List ℕ
-
-unfoldable pub board : (p n wide w : ℕ) → Board
-board p n m w = record { p = p; n = n; wide = m; w = w }
 
 unfoldable pub head-of : (p i n m w : Got) → Head
 head-of p i n m w =
