@@ -1,3 +1,4 @@
 pub mod Grid
 pub mod Hiding
+pub mod Joining
 pub mod Width
