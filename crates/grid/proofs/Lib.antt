@@ -1,7 +1,13 @@
-pub mod Accepted
+pub mod Cells
 pub mod Checking
 pub mod Counting
+pub mod Facts
+pub mod Joining
+pub mod LastWord
+pub mod Marks
 pub mod Powers
+pub mod Refusing
 pub mod Sensors
+pub mod Sums
 pub mod Table
 pub mod Widths
