@@ -8,6 +8,7 @@ pub mod Marks
 pub mod Powers
 pub mod Refusing
 pub mod Sensors
+pub mod Sizes
 pub mod Sums
 pub mod Table
 pub mod Widths
