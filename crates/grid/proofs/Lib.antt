@@ -1,6 +1,14 @@
 pub mod Cells
+pub mod Checking
+pub mod Counting
 pub mod Facts
 pub mod Joining
 pub mod LastWord
 pub mod Marks
+pub mod Powers
+pub mod Refusing
+pub mod Sensors
+pub mod Sizes
 pub mod Sums
+pub mod Table
+pub mod Widths

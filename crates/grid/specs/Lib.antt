@@ -1,3 +1,4 @@
+pub mod Code
 pub mod Grid
 pub mod Hiding
 pub mod Joining
