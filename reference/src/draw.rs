@@ -17,7 +17,7 @@ impl Generator {
         Generator { state: start }
     }
 
-    pub fn next(&mut self) -> u32 {
+    pub fn number(&mut self) -> u32 {
         self.state ^= self.state >> 12;
         self.state ^= self.state << 25;
         self.state ^= self.state >> 27;
@@ -26,11 +26,11 @@ impl Generator {
 
     /// A number below `bound`, nearly uniform.
     pub fn below(&mut self, bound: usize) -> usize {
-        self.next() as usize % bound
+        self.number() as usize % bound
     }
 
     pub fn bytes(&mut self, count: usize) -> Vec<u8> {
-        (0..count).map(|_| self.next() as u8).collect()
+        (0..count).map(|_| self.number() as u8).collect()
     }
 
     /// All columns of p bits with an even (`ones` 0) or odd (`ones` 1) count of ones, in some

@@ -85,7 +85,7 @@ impl Maker {
 
     /// Adds a call with any answer.
     fn add_any(&mut self, call: Call) -> Answer {
-        let fill = self.generator.next() as u8;
+        let fill = self.generator.number() as u8;
         let call = Call { fill, ..call };
         let answer = call.answer();
         self.cases.push(Case {
