@@ -1,2 +1,3 @@
-pub mod Pigeonhole
 pub mod Columns
+pub mod Facts
+pub mod Pigeonhole
