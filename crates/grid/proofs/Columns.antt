@@ -176,6 +176,11 @@ none-marked c (suc i) (suc j) h ne =
     let e = others-half c i in
     bit-suc c j ∙ none-marked (c / 2) i j (omega arith) (λ z. ne (ap suc z))
 
+-- the column without marks has none of others
+pub others-none : (i : ℕ) → other-marks 0 i ≡ 0
+others-none zero = others-zero 0
+others-none (suc i) = let e = others-suc 0 i in let r = others-none i in omega arith
+
 -- a player with a number too high for a column does not mark it
 others-above : (p c : ℕ) → c < 2 ^ p → other-marks c p ≡ c
 unfolding other-marks
@@ -186,11 +191,7 @@ others-above p c h =
 pub some-marked : (p i c : ℕ) → c < 2 ^ p → (other-marks c i ≡ 0 → ⊥) → (k : ℕ) × (k < p) × (k ≡ i → ⊥) × (bit c k ≡ true)
 some-marked zero i c h ne =
     let none : c ≡ 0 = omega arith in
-    absurd (ne (rw none (no-marks i)))
-  where
-    no-marks : (i : ℕ) → other-marks 0 i ≡ 0
-    no-marks zero = others-zero 0
-    no-marks (suc i) = let e = others-suc 0 i in let r = no-marks i in omega arith
+    absurd (ne (rw none (others-none i)))
 some-marked (suc p) zero c h ne =
     let e = others-zero c in
     let f = others-above p (c / 2) (omega arith) in
