@@ -3,6 +3,9 @@ pub mod Cells
 pub mod Columns
 pub mod Facts
 pub mod Holding
+pub mod Joining
+pub mod LastWord
+pub mod Marks
 pub mod Mending
 pub mod Pigeonhole
 pub mod Sums
