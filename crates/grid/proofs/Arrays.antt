@@ -10,7 +10,7 @@ use lib.Dec.{ltb, eqb}
 use lib.ListN.{length, getD}
 use borrow.Author.Tests.{eqb-true, eqb-false, not-true}
 use Rattle.grid.specs.Grid.{Board, columns, grid-rows, bit, Dealing, column, is-odd, array-good, dealing-good, other-marks, unheld-from}
-use Rattle.grid.specs.Arrays.{Accepted, Each-column-once, marked, Half-is-marked, Left-alone, One-row-unheld}
+use Rattle.grid.specs.Arrays.{Accepted, Each-column-once, marked, Half-is-marked, Left-alone, unheld-column, One-row-unheld}
 use Rattle.grid.specs.Hiding.{mended}
 use Rattle.grid.proofs.Columns.{half-fixes, others-and-parity-fix, none-marked, some-marked, others-none, mended-low, mended-parity, mended-alone, without, without-low, bit-and-half-fix}
 use Rattle.grid.proofs.Facts.{Board-in, columns-pos, Array-in, array-in, Arrays-in, Facts, facts}
@@ -164,7 +164,7 @@ pub record Unheld (b : Board) (i : ℕ) (cs : List ℕ) (g place : ℕ) : Type 0
   pub only : (k : ℕ) → k < columns b → other-marks (column b cs g k) i ≡ 0 → k ≡ place
 
 pub one-unheld : (b : Board) (i odd-row : ℕ) (cs : List ℕ) → 2 ≤ b .p → b .p ≤ 8 → i < b .p → Arrays-in b odd-row cs → (g : ℕ) → g < grid-rows b
-    → Unheld b i cs g (unheld-from (columns b) 0 b i cs g)
+    → Unheld b i cs g (unheld-column b i cs g)
 one-unheld b i r cs least most h t g l =
     let odd = eqb g r in
     let lone = mended odd 0 i in
@@ -174,7 +174,7 @@ one-unheld b i r cs least most h t g l =
     (mended-low (b .p) odd 0 i h (omega arith)) (mended-parity odd 0 i (omega arith)) in
     let found = search-finds (columns b) 0 b i cs g (there .0) (omega arith) (let q = there .1 in omega arith)
     (rw (there .2) (mended-alone odd 0 i ∙ others-none i)) in
-    let u = unheld-from (columns b) 0 b i cs g in
+    let u = unheld-column b i cs g in
     let inside : u < columns b = (let q = found .0 in omega arith) in
     record {
       within = inside;

@@ -2,10 +2,12 @@ pub mod Arrays
 pub mod Cells
 pub mod Columns
 pub mod Facts
+pub mod Hiding
 pub mod Holding
 pub mod Joining
 pub mod LastWord
 pub mod Marks
 pub mod Mending
 pub mod Pigeonhole
+pub mod Refilling
 pub mod Sums

@@ -53,13 +53,12 @@ each-place b P h m l =
 
 pub arrays-fixed : (b : Board) (i special : ℕ) (cs ds : List ℕ) → b .p ≤ 8 → Arrays-in b special cs → Arrays-in b special ds
     → ((k : ℕ) → k < b .p → (k ≡ i → ⊥) → Same-marks k (grid-rows b * columns b) cs ds) → cs ≡ ds
-unfolding Same-marks
+unfolding Same-marks column
 arrays-fixed b i s cs ds most c d h =
     ext-getD 0 cs ds (c .long ∙ sym (d .long))
     (λ m l. each-place b (λ n. getD cs n 0 ≡ getD ds n 0) same m (rw (c .long) at l))
   where
     same : (g j : ℕ) → g < grid-rows b → j < columns b → getD cs (g * columns b + j) 0 ≡ getD ds (g * columns b + j) 0
-    unfolding column
     same g j l q =
         others-and-parity-fix (b .p) i (column b cs g j) (column b ds g j) most (c .below g j l q) (d .below g j l q)
         (λ k r ne. h k r ne (g * columns b + j) (place-in b g j l q)) (c .parity g j l q ∙ sym (d .parity g j l q))
@@ -74,6 +73,7 @@ mended-at b i s cs g j l q =
     ∙ rw (place-row b g j q)
 
 pub mended-in : (b : Board) (i old special : ℕ) (cs : List ℕ) → b .p ≤ 8 → i < b .p → Arrays-in b old cs → Arrays-in b special (mended-arrays b i special cs)
+unfolding mended-arrays
 mended-in b i r s cs most h a =
     record {
       long = long-is;
@@ -83,7 +83,6 @@ mended-in b i r s cs most h a =
     }
   where
     long-is : length (mended-arrays b i s cs) ≡ grid-rows b * columns b
-    unfolding mended-arrays
     long-is = length-listed (grid-rows b * columns b) 0 (λ m. mended (eqb (m / columns b) s) (getD cs m 0) i)
 
     others : (g j k n : ℕ) → g < grid-rows b → j < columns b → k < columns b → (n ≡ i → ⊥)

@@ -34,11 +34,14 @@ Half-is-marked =
 unfoldable pub Left-alone : Board → (player column : ℕ) → Type 0
 Left-alone b i c = (k : ℕ) → k < b .p → (k ≡ i → ⊥) → bit c k ≡ false
 
+-- where the row of a grid row stands that nobody but one player can hold
+abbrev pub unheld-column : Board → (player : ℕ) → (arrays : List ℕ) → (g : ℕ) → ℕ
+unheld-column b i cs g = unheld-from (columns b) 0 b i cs g
+
 -- "Each grid row has exactly one row not so held": the column that `unheld-from` finds is the one that nobody else marks, so its falling
 -- back to column 0 is never used
 unfoldable pub One-row-unheld : Type 0
 One-row-unheld =
     (b : Board) (d : Dealing) (i g : ℕ) → dealing-good b d ≡ true → i < b .p → g < grid-rows b →
-    (unheld-from (columns b) 0 b i (d .arrays) g < columns b)
-    × Left-alone b i (column b (d .arrays) g (unheld-from (columns b) 0 b i (d .arrays) g))
-    × ((k : ℕ) → k < columns b → Left-alone b i (column b (d .arrays) g k) → k ≡ unheld-from (columns b) 0 b i (d .arrays) g)
+    (unheld-column b i (d .arrays) g < columns b) × Left-alone b i (column b (d .arrays) g (unheld-column b i (d .arrays) g))
+    × ((k : ℕ) → k < columns b → Left-alone b i (column b (d .arrays) g k) → k ≡ unheld-column b i (d .arrays) g)

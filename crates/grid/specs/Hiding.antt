@@ -89,6 +89,6 @@ moved b i d point value c =
       value = value;
       arrays = mended-arrays b i (point / b .wide) (d .arrays);
       rows =
-        moved-rows b i (point / b .wide) (piece b point value) (last-word b d) c (d .arrays) (d .rows) (d .words);
+          moved-rows b i (point / b .wide) (piece b point value) (last-word b d) c (d .arrays) (d .rows) (d .words);
       words = d .words;
     }

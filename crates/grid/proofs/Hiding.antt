@@ -1,0 +1,280 @@
+-- HIDING: with rows freely drawn, whichever player is left out, whatever point, value and chosen rows are named, just one dealing has these
+-- and gives everybody else the same. The two halves are `moved-is-named`, that there is one, namely the dealing `moved`, and
+-- `no-other-dealing`. Both rest on laws over arrays, rows and words alone, `another-drawn` and `drawn-alike`, for any special grid row and any
+-- row that the words make there. Assumes nothing.
+use mathlib.Core.Path.{_≡_, refl, sym, ap, _∙_, subst}
+use mathlib.Core.Bool.{Bool, true, false, cond}
+use mathlib.Core.List.{List, [], _∷_, _++_}
+use Prim.Native.Nat.{ℕ, zero, suc, _+_, _*_, _-_, _/_, _%_, _^_, _≤_, _<_}
+use native.Mathlib.Omega.{arith}
+use lib.Dec.{eqb}
+use lib.ListN.{length, getD}
+use borrow.Author.Tests.{eqb-true, eqb-false}
+use Rattle.xor.specs.Xor.{bytes-good}
+use Rattle.xor.proofs.Laws.{Word}
+use Rattle.grid.specs.Grid.{Board, columns, grid-rows, row-long, Dealing, column, row-of, piece, last-word, all-words, dealing-good, Held, held, marks-of, held-rows, other-marks, unheld}
+use Rattle.grid.specs.Arrays.{unheld-column}
+use Rattle.grid.specs.Joining.{completing}
+use Rattle.grid.specs.Hiding.{Same-for-others, Named, chosen-good, Tells-nothing, chosen-good-elsewhere, Just-one-dealing, mended-arrays, refilled, chosen-but, row-needed, moved-rows, moved}
+use Rattle.grid.proofs.Arrays.{Unheld, one-unheld}
+use Rattle.grid.proofs.Cells.{piece-word}
+use Rattle.grid.proofs.Columns.{mended-alone}
+use Rattle.grid.proofs.Facts.{Board-in, Arrays-in, Rows-in, Words-in, Facts, facts, dealing-accepted, grid-row-in}
+use Rattle.grid.proofs.Holding.{Same-marks, Same-held, marks-alike, alike-marks, held-alike, alike-held}
+use Rattle.grid.proofs.LastWord.{completing-word, last-word-is, last-word-word}
+use Rattle.grid.proofs.Mending.{arrays-fixed, mended-at, mended-in, mended-marks}
+use Rattle.grid.proofs.Refilling.{rows-fixed, refilled-alone, refilled-held, chosen-elsewhere, moved-rows-in, needed-completes}
+
+-- ARRAYS, ROWS AND WORDS, for any special grid row and any row that the words make there
+
+-- freely drawn: arrays odd in the special grid row only, rows, lent words, and the row to be made
+pub record Drawn (b : Board) (special : ℕ) (made : List ℕ) (cs : List ℕ) (rs ws : List (List ℕ)) : Type 0 where
+  pub board : Board-in b
+  pub inside : special < grid-rows b
+  pub made-word : Word (row-long b) made
+  pub arrays : Arrays-in b special cs
+  pub rows : Rows-in b rs
+  pub words : Words-in b ws
+
+-- everybody but player i has the same marks and the same rows
+pub record Looks-same (b : Board) (i : ℕ) (cs : List ℕ) (rs : List (List ℕ)) (ds : List ℕ) (ss : List (List ℕ)) : Type 0 where
+  pub marks : (k : ℕ) → k < b .p → (k ≡ i → ⊥) → Same-marks k (grid-rows b * columns b) cs ds
+  pub held-same : (k : ℕ) → k < b .p → (k ≡ i → ⊥) → Same-held k (grid-rows b * columns b) cs rs ss
+
+players-most : (b : Board) → Board-in b → b .p ≤ 8
+players-most b f = let most = f .players-most in omega arith
+
+-- THERE IS NO OTHER: what the others have, the words and the chosen rows fix arrays and rows
+pub drawn-alike : (b : Board) (i special : ℕ) (made : List ℕ) (cs ds : List ℕ) (rs ss ws : List (List ℕ)) → i < b .p
+    → Drawn b special made cs rs ws → Drawn b special made ds ss ws → Looks-same b i cs rs ds ss
+    → completing b rs ws special made ≡ completing b ss ws special made
+    → ((g : ℕ) → g < grid-rows b → (g ≡ special → ⊥) → row-of b rs g (unheld-column b i cs g) ≡ row-of b ss g (unheld-column b i ds g))
+    → (cs ≡ ds) × (rs ≡ ss)
+drawn-alike b i s made cs ds rs ss ws player x y same last chosen = (arrays, rows)
+  where
+    arrays : cs ≡ ds
+    arrays = arrays-fixed b i s cs ds (players-most b (x .board)) (x .arrays) (y .arrays) (same .marks)
+
+    rows : rs ≡ ss
+    rows =
+        rows-fixed b i s cs (x .board .players-least) (players-most b (x .board)) player (x .arrays) (x .inside) rs ss ws made (x .rows) (y .rows) (x .words) (x .made-word)
+        (same .held-same) last (λ g l ne. subst (λ (es : List ℕ). row-of b rs g (unheld-column b i cs g) ≡ row-of b ss g (unheld-column b i es g)) (sym arrays) (chosen g l ne))
+
+-- THERE IS ONE: arrays mended for any special grid row, rows chosen elsewhere, and the row that is needed for the word that stays
+module _ (b : Board) (i old : ℕ) (before : List ℕ) (cs : List ℕ) (rs ws : List (List ℕ)) (special : ℕ) (made last : List ℕ) (c : ℕ → List ℕ)
+    (player : i < b .p) (x : Drawn b old before cs rs ws) (inside : special < grid-rows b) (m : Word (row-long b) made)
+    (stays : Word (row-long b) last) (chosen : (g : ℕ) → g < grid-rows b → (g ≡ special → ⊥) → Word (row-long b) (c g)) where
+  pub another-drawn : Drawn b special made (mended-arrays b i special cs) (moved-rows b i special made last c cs rs ws) ws
+  another-drawn =
+      record {
+        board = x .board;
+        inside = inside;
+        made-word = m;
+        arrays = mended-in b i old special cs (players-most b (x .board)) player (x .arrays);
+        rows = moved-rows-in b i old special cs rs ws made last c (x .board .players-least) (players-most b (x .board)) player inside (x .arrays) (x .rows) (x .words) m stays chosen;
+        words = x .words;
+      }
+
+  pub another-looks-same : Looks-same b i cs rs (mended-arrays b i special cs) (moved-rows b i special made last c cs rs ws)
+  unfolding moved-rows
+  another-looks-same =
+      record {
+        marks = λ k l ne. mended-marks b i special cs k ne;
+        held-same = λ k l ne. refilled-held b i cs rs (chosen-but special (row-needed b i special made last c cs rs ws) c) k ne;
+      }
+
+  pub another-completes : completing b (moved-rows b i special made last c cs rs ws) ws special made ≡ last
+  another-completes =
+      needed-completes b i old special cs rs ws made last c (x .board .players-least) (players-most b (x .board)) player inside (x .arrays) (x .rows) (x .words) m stays chosen
+
+  pub another-chosen : (g : ℕ) → g < grid-rows b → (g ≡ special → ⊥)
+      → row-of b (moved-rows b i special made last c cs rs ws) g (unheld-column b i (mended-arrays b i special cs) g) ≡ c g
+  unfolding moved-rows
+  another-chosen g l ne =
+      let u = unheld-column b i (mended-arrays b i special cs) g in
+      let one = one-unheld b i special (mended-arrays b i special cs) (x .board .players-least) (players-most b (x .board)) player (another-drawn .arrays) g l in
+      let row = row-needed b i special made last c cs rs ws in
+      let alone : other-marks (column b cs g u) i ≡ 0 =
+      sym (mended-alone (eqb g special) (column b cs g u) i) ∙ ap (λ (v : ℕ). other-marks v i) (sym (mended-at b i special cs g u l (one .within))) ∙ one .alone in
+      refilled-alone b i cs rs (chosen-but special row c) g u l (one .within) alone ∙ chosen-elsewhere special row c g ne
+
+-- DEALINGS
+
+pub drawn : (b : Board) (d : Dealing) → Facts b d → Drawn b (d .point / b .wide) (piece b (d .point) (d .value)) (d .arrays) (d .rows) (d .words)
+drawn b d f =
+    record {
+      board = f .board;
+      inside = grid-row-in b (f .board) (d .point) (f .point-in);
+      made-word = piece-word b (f .board) (d .point) (d .value) (f .value);
+      arrays = f .arrays;
+      rows = f .rows;
+      words = f .words;
+    }
+
+-- what everybody else holds, taken apart and put together
+
+another-player : (p i : ℕ) → 2 ≤ p → (k : ℕ) × (k < p) × (k ≡ i → ⊥)
+another-player p zero h = (1, omega arith, λ e. omega arith)
+another-player p (suc i) h = (0, omega arith, λ e. omega arith)
+
+-- the last of a list, and those before it
+last-two : (ws vs : List (List ℕ)) (x y : List ℕ) → length ws ≡ length vs → ws ++ (x ∷ []) ≡ vs ++ (y ∷ []) → (ws ≡ vs) × (x ≡ y)
+last-two [] [] x y e h = (refl, cc)
+last-two [] (v ∷ vs) x y e h = let none : ⊥ = omega arith in absurd none
+last-two (w ∷ ws) [] x y e h = let none : ⊥ = omega arith in absurd none
+last-two (w ∷ ws) (v ∷ vs) x y e h =
+    let first : w ≡ v = cc in
+    let rest : ws ++ (x ∷ []) ≡ vs ++ (y ∷ []) = cc in
+    let r = last-two ws vs x y (omega arith) rest in
+    (rw (first, r .0), r .1)
+
+module _ (b : Board) (i : ℕ) (d e : Dealing) (f : Facts b d) (h : Facts b e) where
+  same-long : length (d .arrays) ≡ length (e .arrays)
+  same-long = f .arrays .long ∙ sym (h .arrays .long)
+
+  pub same-words : Same-for-others b i d e → (d .words ≡ e .words) × (last-word b d ≡ last-word b e)
+  unfolding Same-for-others held all-words
+  same-words same =
+      let other = another-player (b .p) i (f .board .players-least) in
+      last-two (d .words) (e .words) (last-word b d) (last-word b e) (f .words .long ∙ sym (h .words .long))
+      (ap (λ (x : Held). x .words) (same (other .0) (other .1) (other .2)))
+
+  pub looks-same : Same-for-others b i d e → Looks-same b i (d .arrays) (d .rows) (e .arrays) (e .rows)
+  unfolding Same-for-others held
+  looks-same same = record { marks = marks; held-same = held-same }
+    where
+      marks : (k : ℕ) → k < b .p → (k ≡ i → ⊥) → Same-marks k (grid-rows b * columns b) (d .arrays) (e .arrays)
+      marks k l ne =
+          subst (λ (n : ℕ). Same-marks k n (d .arrays) (e .arrays)) (f .arrays .long)
+          (alike-marks k (d .arrays) (e .arrays) same-long (ap (λ (x : Held). x .marks) (same k l ne)))
+
+      held-same : (k : ℕ) → k < b .p → (k ≡ i → ⊥) → Same-held k (grid-rows b * columns b) (d .arrays) (d .rows) (e .rows)
+      held-same k l ne =
+          subst (λ (n : ℕ). Same-held k n (d .arrays) (d .rows) (e .rows)) (f .arrays .long)
+          (alike-held k (d .arrays) (e .arrays) (d .rows) (e .rows) same-long (f .rows .long ∙ sym (f .arrays .long)) (h .rows .long ∙ sym (h .arrays .long))
+          (alike-marks k (d .arrays) (e .arrays) same-long (ap (λ (x : Held). x .marks) (same k l ne))) (ap (λ (x : Held). x .rows) (same k l ne)))
+
+  pub same-for-others : Looks-same b i (d .arrays) (d .rows) (e .arrays) (e .rows) → d .words ≡ e .words → last-word b d ≡ last-word b e → Same-for-others b i d e
+  unfolding Same-for-others held all-words
+  same-for-others looks words last k l ne =
+      let marks = subst (λ (n : ℕ). Same-marks k n (d .arrays) (e .arrays)) (sym (f .arrays .long)) (looks .marks k l ne) in
+      let rows = subst (λ (n : ℕ). Same-held k n (d .arrays) (d .rows) (e .rows)) (sym (f .arrays .long)) (looks .held-same k l ne) in
+      held-is (marks-alike k (d .arrays) (e .arrays) same-long marks)
+      (held-alike k (d .arrays) (e .arrays) (d .rows) (e .rows) same-long (f .rows .long ∙ sym (f .arrays .long)) (h .rows .long ∙ sym (h .arrays .long)) marks rows)
+      (ap (λ (ws : List (List ℕ)). ws ++ (last-word b d ∷ [])) words ∙ ap (λ (x : List ℕ). e .words ++ (x ∷ [])) last)
+    where
+      held-is : {ms ns : List Bool} {rs ss ws vs : List (List ℕ)} → ms ≡ ns → rs ≡ ss → ws ≡ vs
+          → _≡_ {A = Held} (record { marks = ms; rows = rs; words = ws }) (record { marks = ns; rows = ss; words = vs })
+      held-is p q r = cc
+
+-- THE FIRST HALF: the dealing that hiding finds has the named point, value and chosen rows, and everybody else holds the same
+
+module _ (b : Board) (i : ℕ) (d : Dealing) (point : ℕ) (value : List ℕ) (c : ℕ → List ℕ) (good : dealing-good b d ≡ true) (player : i < b .p)
+    (at : point < b .n) (v : Word (b .w) value) (chosen : chosen-good-elsewhere b point c) where
+  inside : point / b .wide < grid-rows b
+  inside = grid-row-in b (facts b d good .board) point at
+
+  piece-is : Word (row-long b) (piece b point value)
+  piece-is = piece-word b (facts b d good .board) point value v
+
+  chosen-words : (g : ℕ) → g < grid-rows b → (g ≡ point / b .wide → ⊥) → Word (row-long b) (c g)
+  unfolding chosen-good-elsewhere
+  chosen-words g l ne = record { long = chosen g l ne .0; good = chosen g l ne .1 }
+
+  moved-facts : Facts b (moved b i d point value c)
+  unfolding moved
+  moved-facts =
+      let f = facts b d good in
+      let new = another-drawn b i (d .point / b .wide) (piece b (d .point) (d .value)) (d .arrays) (d .rows) (d .words) (point / b .wide) (piece b point value) (last-word b d) c player (drawn b d f) inside piece-is (last-word-word b d f) chosen-words in
+      record { board = f .board; point-in = at; value = v; arrays = new .arrays; rows = new .rows; words = new .words }
+
+  last-stays : last-word b d ≡ last-word b (moved b i d point value c)
+  unfolding moved
+  last-stays =
+      let f = facts b d good in
+      sym (another-completes b i (d .point / b .wide) (piece b (d .point) (d .value)) (d .arrays) (d .rows) (d .words) (point / b .wide) (piece b point value) (last-word b d) c player (drawn b d f) inside piece-is (last-word-word b d f) chosen-words)
+      ∙ sym (last-word-is b (moved b i d point value c))
+
+  pub moved-is-named : Named b i d point value c (moved b i d point value c)
+  unfolding moved unheld
+  moved-is-named =
+      let f = facts b d good in
+      record {
+        good = dealing-accepted b (moved b i d point value c) moved-facts;
+        point-is = refl;
+        value-is = refl;
+        rows-are = another-chosen b i (d .point / b .wide) (piece b (d .point) (d .value)) (d .arrays) (d .rows) (d .words) (point / b .wide) (piece b point value) (last-word b d) c player (drawn b d f) inside piece-is (last-word-word b d f) chosen-words;
+        others =
+            same-for-others b i d (moved b i d point value c) f moved-facts
+            (another-looks-same b i (d .point / b .wide) (piece b (d .point) (d .value)) (d .arrays) (d .rows) (d .words) (point / b .wide) (piece b point value) (last-word b d) c player (drawn b d f) inside piece-is (last-word-word b d f) chosen-words)
+            refl last-stays;
+      }
+
+-- THE SECOND HALF: two good dealings of one point, one value and the same chosen rows, that give everybody else the same, are equal
+
+dealing-is : {a o : ℕ} {v u : List ℕ} {cs ds : List ℕ} {rs ss ws vs : List (List ℕ)} → a ≡ o → v ≡ u → cs ≡ ds → rs ≡ ss → ws ≡ vs
+    → _≡_ {A = Dealing} (record { point = a; value = v; arrays = cs; rows = rs; words = ws }) (record { point = o; value = u; arrays = ds; rows = ss; words = vs })
+dealing-is p q r s t = cc
+
+pub no-other-dealing : (b : Board) (i : ℕ) (d e : Dealing) → dealing-good b d ≡ true → dealing-good b e ≡ true → i < b .p
+    → d .point ≡ e .point → d .value ≡ e .value → Same-for-others b i d e
+    → ((g : ℕ) → g < grid-rows b → (g ≡ d .point / b .wide → ⊥) → unheld b d i g ≡ unheld b e i g) → d ≡ e
+unfolding unheld
+no-other-dealing b i d e good other player points values same chosen =
+    let f = facts b d good in
+    let h = facts b e other in
+    let special = d .point / b .wide in
+    let made = piece b (d .point) (d .value) in
+    let words = same-words b i d e f h same .0 in
+    let last = same-words b i d e f h same .1 in
+    let at-point = subst (λ (a : ℕ). Drawn b (a / b .wide) (piece b a (e .value)) (e .arrays) (e .rows) (e .words)) (sym points) (drawn b e h) in
+    let at-value = subst (λ (v : List ℕ). Drawn b special (piece b (d .point) v) (e .arrays) (e .rows) (e .words)) (sym values) at-point in
+    let new : Drawn b special made (e .arrays) (e .rows) (d .words) = subst (λ (ws : List (List ℕ)). Drawn b special made (e .arrays) (e .rows) ws) (sym words) at-value in
+    let completes : completing b (d .rows) (d .words) special made ≡ completing b (e .rows) (d .words) special made =
+    cc (last-word-is b d, last-word-is b e) in
+    let parts = drawn-alike b i special made (d .arrays) (e .arrays) (d .rows) (e .rows) (d .words) player (drawn b d f) new (looks-same b i d e f h same) completes chosen in
+    dealing-is points values (parts .0) (parts .1) words
+
+-- so what is named, named twice, is one dealing
+pub named-alike : (b : Board) (i : ℕ) (d : Dealing) (point : ℕ) (value : List ℕ) (c : ℕ → List ℕ) (e other : Dealing) → i < b .p
+    → Named b i d point value c e → Named b i d point value c other → other ≡ e
+unfolding Same-for-others
+named-alike b i d point value c e other player x y =
+    no-other-dealing b i other e (y .good) (x .good) player (y .point-is ∙ sym (x .point-is)) (y .value-is ∙ sym (x .value-is))
+    (λ k l ne. sym (y .others k l ne) ∙ x .others k l ne) (λ g l ne. y .rows-are g l (elsewhere g ne) ∙ sym (x .rows-are g l (elsewhere g ne)))
+  where
+    elsewhere : (g : ℕ) → (g ≡ other .point / b .wide → ⊥) → g ≡ point / b .wide → ⊥
+    elsewhere g ne z = ne (z ∙ ap (λ (a : ℕ). a / b .wide) (sym (y .point-is)))
+
+-- THE THEOREM
+
+pub just-one-dealing : Just-one-dealing
+unfolding Just-one-dealing
+just-one-dealing b i point d value c good player at long bytes chosen =
+    let named = moved-is-named b i d point value c good player at (record { long = long; good = bytes }) chosen in
+    (moved b i d point value c, named, λ other h. named-alike b i d point value c (moved b i d point value c) other player named h)
+
+-- document 03's statement, with chosen rows asked to be good everywhere
+pub tells-nothing : Tells-nothing
+unfolding Tells-nothing Just-one-dealing chosen-good chosen-good-elsewhere
+tells-nothing b i point d value c good player at long bytes chosen =
+    just-one-dealing b i point d value c good player at long bytes (λ g l ne. chosen g)
+
+-- TURNED ROUND: every good dealing that looks the same to all but player i is found by moving, with its own point, value and unheld rows
+
+pub moved-finds : (b : Board) (i : ℕ) (d e : Dealing) (c : ℕ → List ℕ) → dealing-good b d ≡ true → dealing-good b e ≡ true → i < b .p → Same-for-others b i d e
+    → ((g : ℕ) → g < grid-rows b → (g ≡ e .point / b .wide → ⊥) → unheld b e i g ≡ c g) → moved b i d (e .point) (e .value) c ≡ e
+unfolding unheld chosen-good-elsewhere
+moved-finds b i d e c good other player same chosen =
+    let f = facts b e other in
+    let own : Named b i d (e .point) (e .value) c e = record { good = other; point-is = refl; value-is = refl; rows-are = chosen; others = same } in
+    named-alike b i d (e .point) (e .value) c e (moved b i d (e .point) (e .value) c) player own
+    (moved-is-named b i d (e .point) (e .value) c good player (f .point-in) (f .value) (λ g l ne. row-good g l (chosen g l ne)))
+  where
+    row-good : (g : ℕ) → g < grid-rows b → unheld b e i g ≡ c g → (length (c g) ≡ row-long b) × (bytes-good (c g) ≡ true)
+    row-good g l q =
+        let f = facts b e other in
+        let one = one-unheld b i (e .point / b .wide) (e .arrays) (f .board .players-least) (players-most b (f .board)) player (f .arrays) g l in
+        let row = f .rows .each g (unheld-column b i (e .arrays) g) l (one .within) in
+        let word : Word (row-long b) (c g) = subst (λ (x : List ℕ). Word (row-long b) x) q row in
+        (word .long, word .good)
