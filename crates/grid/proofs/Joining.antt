@@ -44,12 +44,9 @@ columns-join (suc k) j b cs rs ws g c odd X few h x =
     let t = term b rs ws g c j in
     let now = h j (omega arith) (omega arith) in
     let later = over k (suc j) (b .w) (λ m. cond odd (term b rs ws g c m) (zeros (b .w))) in
-    let here : over (b .p) 0 (b .w) (after b cs rs ws g c j X) ≡ xors (over (b .p) 0 (b .w) X) (cond odd t (zeros (b .w))) =
-    parity-adds (b .p) (b .w) (column b cs g j) t X few (now .0) (now .2)
-    ∙ ap (λ (o : Bool). xors (over (b .p) 0 (b .w) X) (cond o t (zeros (b .w)))) (now .1) in
     columns-join k (suc j) b cs rs ws g c odd (after b cs rs ws g c j X) few (λ m p q. h m (omega arith) (omega arith))
     (λ i. after-word (b .w) (bit (column b cs g j) i) (X i) t (x i) (now .2))
-    ∙ ap (λ (l : List ℕ). xors l later) here
+    ∙ ap (λ (l : List ℕ). xors l later) (parity-adds (b .p) (b .w) (column b cs g j) odd t X few (now .0) (now .1) (now .2))
     ∙ xors-assoc (over (b .p) 0 (b .w) X) (cond odd t (zeros (b .w))) later
 
 -- the terms of all columns are, at the cell, what all words and all rows of the grid row make

@@ -59,10 +59,10 @@ marks-add (suc k) i n v t f =
         let none : v / 2 ^ i % 2 + count ≡ count = omega (arith, mark-clear v i e) in
         rw none (sym (xors-assoc (f i) later (times n count t)))
 
--- so all players together add it once where the column's parity is odd, and not at all where it is even: what parity is for
-pub parity-adds : (p n v : ℕ) (t : List ℕ) (f : ℕ → List ℕ) → p ≤ 8 → v < 2 ^ p → Word n t
-    → over p 0 n (λ m. cond (bit v m) (xors (f m) t) (f m)) ≡ xors (over p 0 n f) (cond (is-odd v) t (zeros n))
+-- so all players together add it once where the column's parity is odd, and not at all where it is even
+pub parity-adds : (p n v : ℕ) (odd : Bool) (t : List ℕ) (f : ℕ → List ℕ) → p ≤ 8 → v < 2 ^ p → is-odd v ≡ odd → Word n t
+    → over p 0 n (λ m. cond (bit v m) (xors (f m) t) (f m)) ≡ xors (over p 0 n f) (cond odd t (zeros n))
 unfolding is-odd
-parity-adds p n v t f l h g =
+parity-adds p n v odd t f l h parity g =
     let whole : v / 2 ^ 0 ≡ v = omega arith in
-    marks-add p 0 n v t f ∙ rw (whole, times-parity n (ones p v) t g, ones-beyond p 8 v l h)
+    marks-add p 0 n v t f ∙ rw (whole, times-parity n (ones p v) t g, ← (ones-beyond p 8 v l h), parity)
