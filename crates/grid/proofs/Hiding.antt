@@ -23,56 +23,43 @@ use Rattle.grid.proofs.Facts.{Board-in, Arrays-in, Rows-in, Words-in, F
 use Rattle.grid.proofs.Holding.{Same-marks, Same-held, marks-alike, alike-marks, held-alike, alike-held}
 use Rattle.grid.proofs.LastWord.{completing-word, last-word-is, last-word-word}
 use Rattle.grid.proofs.Mending.{arrays-fixed, mended-at, mended-in, mended-marks}
-use Rattle.grid.proofs.Refilling.{rows-fixed, refilled-alone, refilled-held, chosen-elsewhere, moved-rows-in, needed-completes}
+use Rattle.grid.proofs.Refilling.{Drawn, rows-fixed, refilled-alone, refilled-held, chosen-elsewhere, Change, moved-rows-in, needed-completes}
 
 -- ARRAYS, ROWS AND WORDS, for any special grid row and any row that the words make there
-
--- freely drawn: arrays odd in the special grid row only, rows, lent words, and the row to be made
-pub record Drawn (b : Board) (special : ℕ) (made : List ℕ) (cs : List ℕ) (rs ws : List (List ℕ)) : Type 0 where
-  pub board : Board-in b
-  pub inside : special < grid-rows b
-  pub made-word : Word (row-long b) made
-  pub arrays : Arrays-in b special cs
-  pub rows : Rows-in b rs
-  pub words : Words-in b ws
 
 -- everybody but player i has the same marks and the same rows
 pub record Looks-same (b : Board) (i : ℕ) (cs : List ℕ) (rs : List (List ℕ)) (ds : List ℕ) (ss : List (List ℕ)) : Type 0 where
   pub marks : (k : ℕ) → k < b .p → (k ≡ i → ⊥) → Same-marks k (grid-rows b * columns b) cs ds
-  pub held-same : (k : ℕ) → k < b .p → (k ≡ i → ⊥) → Same-held k (grid-rows b * columns b) cs rs ss
-
-players-most : (b : Board) → Board-in b → b .p ≤ 8
-players-most b f = let most = f .players-most in omega arith
+  pub rows : (k : ℕ) → k < b .p → (k ≡ i → ⊥) → Same-held k (grid-rows b * columns b) cs rs ss
 
 -- THERE IS NO OTHER: what the others have, the words and the chosen rows fix arrays and rows
-pub drawn-alike : (b : Board) (i special : ℕ) (made : List ℕ) (cs ds : List ℕ) (rs ss ws : List (List ℕ)) → i < b .p
+pub drawn-alike : {b : Board} {special : ℕ} {made cs ds : List ℕ} {rs ss ws : List (List ℕ)} (i : ℕ) → i < b .p
     → Drawn b special made cs rs ws → Drawn b special made ds ss ws → Looks-same b i cs rs ds ss
     → completing b rs ws special made ≡ completing b ss ws special made
     → ((g : ℕ) → g < grid-rows b → (g ≡ special → ⊥) → row-of b rs g (unheld-column b i cs g) ≡ row-of b ss g (unheld-column b i ds g))
     → (cs ≡ ds) × (rs ≡ ss)
-drawn-alike b i s made cs ds rs ss ws player x y same last chosen = (arrays, rows)
+drawn-alike {b} {special} {made} {cs} {ds} {rs} {ss} {ws} i player x y same last chosen = (arrays, rows)
   where
     arrays : cs ≡ ds
-    arrays = arrays-fixed b i s cs ds (players-most b (x .board)) (x .arrays) (y .arrays) (same .marks)
+    arrays = arrays-fixed b (x .board) i special cs ds (x .arrays) (y .arrays) (same .marks)
 
     rows : rs ≡ ss
     rows =
-        rows-fixed b i s cs (x .board .players-least) (players-most b (x .board)) player (x .arrays) (x .inside) rs ss ws made (x .rows) (y .rows) (x .words) (x .made-word)
-        (same .held-same) last (λ g l ne. subst (λ (es : List ℕ). row-of b rs g (unheld-column b i cs g) ≡ row-of b ss g (unheld-column b i es g)) (sym arrays) (chosen g l ne))
+        rows-fixed i player x ss (y .rows) (same .rows) last
+        (λ g l ne. subst (λ (es : List ℕ). row-of b rs g (unheld-column b i cs g) ≡ row-of b ss g (unheld-column b i es g)) (sym arrays) (chosen g l ne))
 
--- THERE IS ONE: arrays mended for any special grid row, rows chosen elsewhere, and the row that is needed for the word that stays
-module _ (b : Board) (i old : ℕ) (before : List ℕ) (cs : List ℕ) (rs ws : List (List ℕ)) (special : ℕ) (made last : List ℕ) (c : ℕ → List ℕ)
-    (player : i < b .p) (x : Drawn b old before cs rs ws) (inside : special < grid-rows b) (m : Word (row-long b) made)
-    (stays : Word (row-long b) last) (chosen : (g : ℕ) → g < grid-rows b → (g ≡ special → ⊥) → Word (row-long b) (c g)) where
+-- THERE IS ONE: arrays mended for any special grid row, rows chosen elsewhere, and the row that is needed for the last word to stay
+module _ {b : Board} {i old : ℕ} {before cs : List ℕ} {rs ws : List (List ℕ)} {special : ℕ} {made last : List ℕ} {c : ℕ → List ℕ}
+    (x : Change b i old before cs rs ws special made last c) where
   pub another-drawn : Drawn b special made (mended-arrays b i special cs) (moved-rows b i special made last c cs rs ws) ws
   another-drawn =
       record {
-        board = x .board;
-        inside = inside;
-        made-word = m;
-        arrays = mended-in b i old special cs (players-most b (x .board)) player (x .arrays);
-        rows = moved-rows-in b i old special cs rs ws made last c (x .board .players-least) (players-most b (x .board)) player inside (x .arrays) (x .rows) (x .words) m stays chosen;
-        words = x .words;
+        board = x .drawn .board;
+        inside = x .inside;
+        made-word = x .made-word;
+        arrays = mended-in b (x .drawn .board) i (x .player) old special cs (x .drawn .arrays);
+        rows = moved-rows-in x;
+        words = x .drawn .words;
       }
 
   pub another-looks-same : Looks-same b i cs rs (mended-arrays b i special cs) (moved-rows b i special made last c cs rs ws)
@@ -80,22 +67,19 @@ module _ (b : Board) (i old : ℕ) (before : List ℕ) (cs : List ℕ) (rs ws : 
   another-looks-same =
       record {
         marks = λ k l ne. mended-marks b i special cs k ne;
-        held-same = λ k l ne. refilled-held b i cs rs (chosen-but special (row-needed b i special made last c cs rs ws) c) k ne;
+        rows = λ k l ne. refilled-held b i cs rs (chosen-but special (row-needed b i special made last c cs rs ws) c) k ne;
       }
-
-  pub another-completes : completing b (moved-rows b i special made last c cs rs ws) ws special made ≡ last
-  another-completes =
-      needed-completes b i old special cs rs ws made last c (x .board .players-least) (players-most b (x .board)) player inside (x .arrays) (x .rows) (x .words) m stays chosen
 
   pub another-chosen : (g : ℕ) → g < grid-rows b → (g ≡ special → ⊥)
       → row-of b (moved-rows b i special made last c cs rs ws) g (unheld-column b i (mended-arrays b i special cs) g) ≡ c g
   unfolding moved-rows
   another-chosen g l ne =
       let u = unheld-column b i (mended-arrays b i special cs) g in
-      let one = one-unheld b i special (mended-arrays b i special cs) (x .board .players-least) (players-most b (x .board)) player (another-drawn .arrays) g l in
+      let one = one-unheld b (x .drawn .board) i (x .player) special (mended-arrays b i special cs) (another-drawn .arrays) g l in
       let row = row-needed b i special made last c cs rs ws in
       let alone : other-marks (column b cs g u) i ≡ 0 =
-      sym (mended-alone (eqb g special) (column b cs g u) i) ∙ ap (λ (v : ℕ). other-marks v i) (sym (mended-at b i special cs g u l (one .within))) ∙ one .alone in
+      sym (mended-alone (eqb g special) (column b cs g u) i)
+      ∙ ap (λ (v : ℕ). other-marks v i) (sym (mended-at b i special cs g u l (one .within))) ∙ one .alone in
       refilled-alone b i cs rs (chosen-but special row c) g u l (one .within) alone ∙ chosen-elsewhere special row c g ne
 
 -- DEALINGS
@@ -141,15 +125,15 @@ module _ (b : Board) (i : ℕ) (d e : Dealing) (f : Facts b d) (h : Facts b e) w
 
   pub looks-same : Same-for-others b i d e → Looks-same b i (d .arrays) (d .rows) (e .arrays) (e .rows)
   unfolding Same-for-others held
-  looks-same same = record { marks = marks; held-same = held-same }
+  looks-same same = record { marks = marks; rows = rows }
     where
       marks : (k : ℕ) → k < b .p → (k ≡ i → ⊥) → Same-marks k (grid-rows b * columns b) (d .arrays) (e .arrays)
       marks k l ne =
           subst (λ (n : ℕ). Same-marks k n (d .arrays) (e .arrays)) (f .arrays .long)
           (alike-marks k (d .arrays) (e .arrays) same-long (ap (λ (x : Held). x .marks) (same k l ne)))
 
-      held-same : (k : ℕ) → k < b .p → (k ≡ i → ⊥) → Same-held k (grid-rows b * columns b) (d .arrays) (d .rows) (e .rows)
-      held-same k l ne =
+      rows : (k : ℕ) → k < b .p → (k ≡ i → ⊥) → Same-held k (grid-rows b * columns b) (d .arrays) (d .rows) (e .rows)
+      rows k l ne =
           subst (λ (n : ℕ). Same-held k n (d .arrays) (d .rows) (e .rows)) (f .arrays .long)
           (alike-held k (d .arrays) (e .arrays) (d .rows) (e .rows) same-long (f .rows .long ∙ sym (f .arrays .long)) (h .rows .long ∙ sym (h .arrays .long))
           (alike-marks k (d .arrays) (e .arrays) same-long (ap (λ (x : Held). x .marks) (same k l ne))) (ap (λ (x : Held). x .rows) (same k l ne)))
@@ -158,7 +142,7 @@ module _ (b : Board) (i : ℕ) (d e : Dealing) (f : Facts b d) (h : Facts b e) w
   unfolding Same-for-others held all-words
   same-for-others looks words last k l ne =
       let marks = subst (λ (n : ℕ). Same-marks k n (d .arrays) (e .arrays)) (sym (f .arrays .long)) (looks .marks k l ne) in
-      let rows = subst (λ (n : ℕ). Same-held k n (d .arrays) (d .rows) (e .rows)) (sym (f .arrays .long)) (looks .held-same k l ne) in
+      let rows = subst (λ (n : ℕ). Same-held k n (d .arrays) (d .rows) (e .rows)) (sym (f .arrays .long)) (looks .rows k l ne) in
       held-is (marks-alike k (d .arrays) (e .arrays) same-long marks)
       (held-alike k (d .arrays) (e .arrays) (d .rows) (e .rows) same-long (f .rows .long ∙ sym (f .arrays .long)) (h .rows .long ∙ sym (h .arrays .long)) marks rows)
       (ap (λ (ws : List (List ℕ)). ws ++ (last-word b d ∷ [])) words ∙ ap (λ (x : List ℕ). e .words ++ (x ∷ [])) last)
@@ -171,43 +155,38 @@ module _ (b : Board) (i : ℕ) (d e : Dealing) (f : Facts b d) (h : Facts b e) w
 
 module _ (b : Board) (i : ℕ) (d : Dealing) (point : ℕ) (value : List ℕ) (c : ℕ → List ℕ) (good : dealing-good b d ≡ true) (player : i < b .p)
     (at : point < b .n) (v : Word (b .w) value) (chosen : chosen-good-elsewhere b point c) where
-  inside : point / b .wide < grid-rows b
-  inside = grid-row-in b (facts b d good .board) point at
-
-  piece-is : Word (row-long b) (piece b point value)
-  piece-is = piece-word b (facts b d good .board) point value v
-
-  chosen-words : (g : ℕ) → g < grid-rows b → (g ≡ point / b .wide → ⊥) → Word (row-long b) (c g)
+  change : Change b i (d .point / b .wide) (piece b (d .point) (d .value)) (d .arrays) (d .rows) (d .words) (point / b .wide) (piece b point value) (last-word b d) c
   unfolding chosen-good-elsewhere
-  chosen-words g l ne = record { long = chosen g l ne .0; good = chosen g l ne .1 }
+  change =
+      let f = facts b d good in
+      record {
+        player = player;
+        drawn = drawn b d f;
+        inside = grid-row-in b (f .board) point at;
+        made-word = piece-word b (f .board) point value v;
+        last-word = last-word-word b d f;
+        chosen = λ g l ne. record { long = chosen g l ne .0; good = chosen g l ne .1 };
+      }
 
   moved-facts : Facts b (moved b i d point value c)
   unfolding moved
   moved-facts =
-      let f = facts b d good in
-      let new = another-drawn b i (d .point / b .wide) (piece b (d .point) (d .value)) (d .arrays) (d .rows) (d .words) (point / b .wide) (piece b point value) (last-word b d) c player (drawn b d f) inside piece-is (last-word-word b d f) chosen-words in
-      record { board = f .board; point-in = at; value = v; arrays = new .arrays; rows = new .rows; words = new .words }
+      let new = another-drawn change in
+      record { board = new .board; point-in = at; value = v; arrays = new .arrays; rows = new .rows; words = new .words }
 
-  last-stays : last-word b d ≡ last-word b (moved b i d point value c)
+  last-stays : last-word b (moved b i d point value c) ≡ last-word b d
   unfolding moved
-  last-stays =
-      let f = facts b d good in
-      sym (another-completes b i (d .point / b .wide) (piece b (d .point) (d .value)) (d .arrays) (d .rows) (d .words) (point / b .wide) (piece b point value) (last-word b d) c player (drawn b d f) inside piece-is (last-word-word b d f) chosen-words)
-      ∙ sym (last-word-is b (moved b i d point value c))
+  last-stays = last-word-is b (moved b i d point value c) ∙ needed-completes change
 
   pub moved-is-named : Named b i d point value c (moved b i d point value c)
   unfolding moved unheld
   moved-is-named =
-      let f = facts b d good in
       record {
         good = dealing-accepted b (moved b i d point value c) moved-facts;
         point-is = refl;
         value-is = refl;
-        rows-are = another-chosen b i (d .point / b .wide) (piece b (d .point) (d .value)) (d .arrays) (d .rows) (d .words) (point / b .wide) (piece b point value) (last-word b d) c player (drawn b d f) inside piece-is (last-word-word b d f) chosen-words;
-        others =
-            same-for-others b i d (moved b i d point value c) f moved-facts
-            (another-looks-same b i (d .point / b .wide) (piece b (d .point) (d .value)) (d .arrays) (d .rows) (d .words) (point / b .wide) (piece b point value) (last-word b d) c player (drawn b d f) inside piece-is (last-word-word b d f) chosen-words)
-            refl last-stays;
+        rows-are = another-chosen change;
+        others = same-for-others b i d (moved b i d point value c) (facts b d good) moved-facts (another-looks-same change) refl (sym last-stays);
       }
 
 -- THE SECOND HALF: two good dealings of one point, one value and the same chosen rows, that give everybody else the same, are equal
@@ -232,7 +211,7 @@ no-other-dealing b i d e good other player points values same chosen =
     let new : Drawn b special made (e .arrays) (e .rows) (d .words) = subst (λ (ws : List (List ℕ)). Drawn b special made (e .arrays) (e .rows) ws) (sym words) at-value in
     let completes : completing b (d .rows) (d .words) special made ≡ completing b (e .rows) (d .words) special made =
     cc (last-word-is b d, last-word-is b e) in
-    let parts = drawn-alike b i special made (d .arrays) (e .arrays) (d .rows) (e .rows) (d .words) player (drawn b d f) new (looks-same b i d e f h same) completes chosen in
+    let parts = drawn-alike i player (drawn b d f) new (looks-same b i d e f h same) completes chosen in
     dealing-is points values (parts .0) (parts .1) words
 
 -- so what is named, named twice, is one dealing
@@ -274,7 +253,7 @@ moved-finds b i d e c good other player same chosen =
     row-good : (g : ℕ) → g < grid-rows b → unheld b e i g ≡ c g → (length (c g) ≡ row-long b) × (bytes-good (c g) ≡ true)
     row-good g l q =
         let f = facts b e other in
-        let one = one-unheld b i (e .point / b .wide) (e .arrays) (f .board .players-least) (players-most b (f .board)) player (f .arrays) g l in
+        let one = one-unheld b (f .board) i player (e .point / b .wide) (e .arrays) (f .arrays) g l in
         let row = f .rows .each g (unheld-column b i (e .arrays) g) l (one .within) in
         let word : Word (row-long b) (c g) = subst (λ (x : List ℕ). Word (row-long b) x) q row in
         (word .long, word .good)

@@ -13,7 +13,7 @@ use lib.Seq.{ext-getD}
 use Rattle.grid.specs.Grid.{Board, columns, grid-rows, bit, column, is-odd}
 use Rattle.grid.specs.Hiding.{mended, listed, mended-arrays}
 use Rattle.grid.proofs.Columns.{others-and-parity-fix, mended-low, mended-parity, mended-others}
-use Rattle.grid.proofs.Facts.{Arrays-in, columns-pos}
+use Rattle.grid.proofs.Facts.{Board-in, Arrays-in, columns-pos}
 use Rattle.grid.proofs.Holding.{Same-marks}
 
 -- LISTS MADE PLACE BY PLACE
@@ -51,16 +51,16 @@ each-place b P h m l =
 
 -- THE ARRAYS ARE FIXED by the others' marks and the special grid row
 
-pub arrays-fixed : (b : Board) (i special : ℕ) (cs ds : List ℕ) → b .p ≤ 8 → Arrays-in b special cs → Arrays-in b special ds
+pub arrays-fixed : (b : Board) → Board-in b → (i special : ℕ) (cs ds : List ℕ) → Arrays-in b special cs → Arrays-in b special ds
     → ((k : ℕ) → k < b .p → (k ≡ i → ⊥) → Same-marks k (grid-rows b * columns b) cs ds) → cs ≡ ds
 unfolding Same-marks column
-arrays-fixed b i s cs ds most c d h =
+arrays-fixed b f i s cs ds c d h =
     ext-getD 0 cs ds (c .long ∙ sym (d .long))
     (λ m l. each-place b (λ n. getD cs n 0 ≡ getD ds n 0) same m (rw (c .long) at l))
   where
     same : (g j : ℕ) → g < grid-rows b → j < columns b → getD cs (g * columns b + j) 0 ≡ getD ds (g * columns b + j) 0
     same g j l q =
-        others-and-parity-fix (b .p) i (column b cs g j) (column b ds g j) most (c .below g j l q) (d .below g j l q)
+        others-and-parity-fix (b .p) i (column b cs g j) (column b ds g j) (omega arith) (c .below g j l q) (d .below g j l q)
         (λ k r ne. h k r ne (g * columns b + j) (place-in b g j l q)) (c .parity g j l q ∙ sym (d .parity g j l q))
 
 -- THE ARRAYS MENDED
@@ -72,9 +72,9 @@ mended-at b i s cs g j l q =
     listed-at (grid-rows b * columns b) (λ m. mended (eqb (m / columns b) s) (getD cs m 0) i) (g * columns b + j) 0 (place-in b g j l q)
     ∙ rw (place-row b g j q)
 
-pub mended-in : (b : Board) (i old special : ℕ) (cs : List ℕ) → b .p ≤ 8 → i < b .p → Arrays-in b old cs → Arrays-in b special (mended-arrays b i special cs)
+pub mended-in : (b : Board) → Board-in b → (i : ℕ) → i < b .p → (old special : ℕ) (cs : List ℕ) → Arrays-in b old cs → Arrays-in b special (mended-arrays b i special cs)
 unfolding mended-arrays
-mended-in b i r s cs most h a =
+mended-in b f i h r s cs a =
     record {
       long = long-is;
       below = λ g j l q. rw (mended-at b i s cs g j l q) (mended-low (b .p) (eqb g s) (column b cs g j) i h (a .below g j l q));
@@ -95,7 +95,7 @@ mended-in b i r s cs most h a =
         → column b (mended-arrays b i s cs) g j ≡ column b (mended-arrays b i s cs) g k → j ≡ k
     once-of g j k l q r e =
         a .once g j k l q r
-        (others-and-parity-fix (b .p) i (column b cs g j) (column b cs g k) most (a .below g j l q) (a .below g k l r)
+        (others-and-parity-fix (b .p) i (column b cs g j) (column b cs g k) (omega arith) (a .below g j l q) (a .below g k l r)
         (λ n t ne. others g j k n l q r ne e) (a .parity g j l q ∙ sym (a .parity g k l r)))
 
 -- nobody else sees a difference

@@ -17,7 +17,7 @@ use Rattle.grid.specs.Arrays.{unheld-column}
 use Rattle.grid.specs.Hiding.{listed, refilled, chosen-but, row-needed, moved-rows}
 use Rattle.grid.proofs.Arrays.{Unheld, one-unheld}
 use Rattle.grid.proofs.Columns.{none-marked, some-marked}
-use Rattle.grid.proofs.Facts.{Arrays-in, Rows-in, Words-in}
+use Rattle.grid.proofs.Facts.{Board-in, Arrays-in, Rows-in, Words-in}
 use Rattle.grid.proofs.Holding.{Same-held}
 use Rattle.grid.proofs.LastWord.{words-sum, rows-sum, completing-is, completing-word}
 use Rattle.grid.proofs.Mending.{length-listed, listed-at, place-in, place-row, each-place}
@@ -82,45 +82,56 @@ module _ (b : Board) (special : ℕ) (inside : special < grid-rows b) (rs ss ws 
       (r .each special u inside place) (s .each special u inside place)
       (xors-comm last (row-of b rs special u) ∙ one-row-differs ∙ rw (← e) (xors-comm (row-of b ss special u) last))
 
+-- FREELY DRAWN: arrays odd in the special grid row only, rows, lent words, and the row that the words make there, whatever it is
+
+pub record Drawn (b : Board) (special : ℕ) (made : List ℕ) (cs : List ℕ) (rs ws : List (List ℕ)) : Type 0 where
+  pub board : Board-in b
+  pub inside : special < grid-rows b
+  pub made-word : Word (row-long b) made
+  pub arrays : Arrays-in b special cs
+  pub rows : Rows-in b rs
+  pub words : Words-in b ws
+
 -- THE ROWS ARE FIXED by those that the others hold, the chosen ones and the last word
 
-module _ (b : Board) (i special : ℕ) (cs : List ℕ) (least : 2 ≤ b .p) (most : b .p ≤ 8) (player : i < b .p) (a : Arrays-in b special cs) where
-  -- a row with other marks is held by somebody else
-  held-same : (rs ss : List (List ℕ)) → ((k : ℕ) → k < b .p → (k ≡ i → ⊥) → Same-held k (grid-rows b * columns b) cs rs ss)
-      → (g j : ℕ) → g < grid-rows b → j < columns b → (other-marks (column b cs g j) i ≡ 0 → ⊥) → row-of b rs g j ≡ row-of b ss g j
-  unfolding Same-held column row-of
-  held-same rs ss h g j l q ne =
-      let other = some-marked (b .p) i (column b cs g j) (a .below g j l q) ne in
-      h (other .0) (other .1) (other .2) (g * columns b + j) (place-in b g j l q) (other .3)
+-- a row with other marks is held by somebody else
+held-same : (b : Board) (i special : ℕ) (cs : List ℕ) → Arrays-in b special cs → (rs ss : List (List ℕ))
+    → ((k : ℕ) → k < b .p → (k ≡ i → ⊥) → Same-held k (grid-rows b * columns b) cs rs ss)
+    → (g j : ℕ) → g < grid-rows b → j < columns b → (other-marks (column b cs g j) i ≡ 0 → ⊥) → row-of b rs g j ≡ row-of b ss g j
+unfolding Same-held column row-of
+held-same b i special cs a rs ss h g j l q ne =
+    let other = some-marked (b .p) i (column b cs g j) (a .below g j l q) ne in
+    h (other .0) (other .1) (other .2) (g * columns b + j) (place-in b g j l q) (other .3)
 
-  pub rows-fixed : special < grid-rows b → (rs ss ws : List (List ℕ)) (made : List ℕ) → Rows-in b rs → Rows-in b ss → Words-in b ws → Word (row-long b) made
-      → ((k : ℕ) → k < b .p → (k ≡ i → ⊥) → Same-held k (grid-rows b * columns b) cs rs ss)
-      → completing b rs ws special made ≡ completing b ss ws special made
-      → ((g : ℕ) → g < grid-rows b → (g ≡ special → ⊥) → row-of b rs g (unheld-column b i cs g) ≡ row-of b ss g (unheld-column b i cs g))
-      → rs ≡ ss
-  unfolding row-of
-  rows-fixed inside rs ss ws made r s w m h last chosen =
-      ext-getD [] rs ss (r .long ∙ sym (s .long)) (λ n l. each-place b (λ n. getD rs n [] ≡ getD ss n []) same n (rw (r .long) at l))
-    where
-      one : (g : ℕ) → g < grid-rows b → Unheld b i cs g (unheld-column b i cs g)
-      one g l = one-unheld b i special cs least most player a g l
+pub rows-fixed : {b : Board} {special : ℕ} {made cs : List ℕ} {rs ws : List (List ℕ)} (i : ℕ) → i < b .p → Drawn b special made cs rs ws → (ss : List (List ℕ)) → Rows-in b ss
+    → ((k : ℕ) → k < b .p → (k ≡ i → ⊥) → Same-held k (grid-rows b * columns b) cs rs ss)
+    → completing b rs ws special made ≡ completing b ss ws special made
+    → ((g : ℕ) → g < grid-rows b → (g ≡ special → ⊥) → row-of b rs g (unheld-column b i cs g) ≡ row-of b ss g (unheld-column b i cs g)) → rs ≡ ss
+unfolding row-of
+rows-fixed {b} {special} {made} {cs} {rs} {ws} i player x ss s h last chosen =
+    ext-getD [] rs ss (x .rows .long ∙ sym (s .long)) (λ n l. each-place b (λ n. getD rs n [] ≡ getD ss n []) same n (rw (x .rows .long) at l))
+  where
+    one : (g : ℕ) → g < grid-rows b → Unheld b i cs g (unheld-column b i cs g)
+    one g l = one-unheld b (x .board) i player special cs (x .arrays) g l
 
-      left : row-of b rs special (unheld-column b i cs special) ≡ row-of b ss special (unheld-column b i cs special)
-      left =
-          last-row-fixed b special inside rs ss ws made r s w m (unheld-column b i cs special) (one special inside .within)
-          (λ j q ne. held-same rs ss h special j inside q (λ z. ne (one special inside .only j q z))) last
+    -- the last word fixes the one of the special grid row
+    left : row-of b rs special (unheld-column b i cs special) ≡ row-of b ss special (unheld-column b i cs special)
+    left =
+        let u = one special (x .inside) in
+        last-row-fixed b special (x .inside) rs ss ws made (x .rows) s (x .words) (x .made-word) (unheld-column b i cs special) (u .within)
+        (λ j q ne. held-same b i special cs (x .arrays) rs ss h special j (x .inside) q (λ z. ne (u .only j q z))) last
 
-      unheld-same : (g : ℕ) → g < grid-rows b → (t : Bool) → eqb g special ≡ t
-          → row-of b rs g (unheld-column b i cs g) ≡ row-of b ss g (unheld-column b i cs g)
-      unheld-same g l true e = rw (eqb-true g special e) left
-      unheld-same g l false e = chosen g l (eqb-false g special e)
+    unheld-same : (g : ℕ) → g < grid-rows b → (t : Bool) → eqb g special ≡ t → row-of b rs g (unheld-column b i cs g) ≡ row-of b ss g (unheld-column b i cs g)
+    unheld-same g l true e = rw (eqb-true g special e) left
+    unheld-same g l false e = chosen g l (eqb-false g special e)
 
-      by-place : (g j : ℕ) → g < grid-rows b → j < columns b → (t : Bool) → eqb (other-marks (column b cs g j) i) 0 ≡ t → row-of b rs g j ≡ row-of b ss g j
-      by-place g j l q true e = rw (one g l .only j q (eqb-true (other-marks (column b cs g j) i) 0 e)) (unheld-same g l (eqb g special) refl)
-      by-place g j l q false e = held-same rs ss h g j l q (eqb-false (other-marks (column b cs g j) i) 0 e)
+    by-place : (g j : ℕ) → g < grid-rows b → j < columns b → (t : Bool) → eqb (other-marks (column b cs g j) i) 0 ≡ t → row-of b rs g j ≡ row-of b ss g j
+    by-place g j l q true e =
+        rw (one g l .only j q (eqb-true (other-marks (column b cs g j) i) 0 e)) (unheld-same g l (eqb g special) refl)
+    by-place g j l q false e = held-same b i special cs (x .arrays) rs ss h g j l q (eqb-false (other-marks (column b cs g j) i) 0 e)
 
-      same : (g j : ℕ) → g < grid-rows b → j < columns b → getD rs (g * columns b + j) [] ≡ getD ss (g * columns b + j) []
-      same g j l q = by-place g j l q (eqb (other-marks (column b cs g j) i) 0) refl
+    same : (g j : ℕ) → g < grid-rows b → j < columns b → getD rs (g * columns b + j) [] ≡ getD ss (g * columns b + j) []
+    same g j l q = by-place g j l q (eqb (other-marks (column b cs g j) i) 0) refl
 
 -- THE ROWS REFILLED
 
@@ -177,59 +188,76 @@ pub chosen-elsewhere : (special : ℕ) (row : List ℕ) (c : ℕ → List ℕ) (
 unfolding chosen-but
 chosen-elsewhere s row c g ne = rw (ne-eqb g s ne)
 
-module _ (b : Board) (i old special : ℕ) (cs : List ℕ) (rs ws : List (List ℕ)) (made last : List ℕ) (c : ℕ → List ℕ) (least : 2 ≤ b .p) (most : b .p ≤ 8)
-    (player : i < b .p) (inside : special < grid-rows b) (a : Arrays-in b old cs) (r : Rows-in b rs) (w : Words-in b ws)
-    (m : Word (row-long b) made) (stays : Word (row-long b) last)
-    (chosen : (g : ℕ) → g < grid-rows b → (g ≡ special → ⊥) → Word (row-long b) (c g)) where
-  chosen-word : (row : List ℕ) → Word (row-long b) row → (g : ℕ) → g < grid-rows b → Word (row-long b) (chosen-but special row c g)
-  unfolding chosen-but
-  chosen-word row x g l = go (eqb g special) refl
-    where
-      go : (t : Bool) → eqb g special ≡ t → Word (row-long b) (cond t row (c g))
-      go true e = x
-      go false e = chosen g l (eqb-false g special e)
+-- what a change needs: a player to be left out, something freely drawn, another special grid row and row to be made, the last word that is to
+-- stay, and good rows chosen elsewhere
+pub record Change (b : Board) (i old : ℕ) (before cs : List ℕ) (rs ws : List (List ℕ)) (special : ℕ) (made last : List ℕ) (c : ℕ → List ℕ) : Type 0 where
+  pub player : i < b .p
+  pub drawn : Drawn b old before cs rs ws
+  pub inside : special < grid-rows b
+  pub made-word : Word (row-long b) made
+  pub last-word : Word (row-long b) last
+  pub chosen : (g : ℕ) → g < grid-rows b → (g ≡ special → ⊥) → Word (row-long b) (c g)
 
-  -- the rows with one row chosen freely in the special grid row
+module _ {b : Board} {i old : ℕ} {before cs : List ℕ} {rs ws : List (List ℕ)} {special : ℕ} {made last : List ℕ} {c : ℕ → List ℕ}
+    (x : Change b i old before cs rs ws special made last c) where
+  -- the rows with one row left to choose in the special grid row
   with-row : List ℕ → List (List ℕ)
   with-row row = refilled b i cs rs (chosen-but special row c)
 
   with-row-in : (row : List ℕ) → Word (row-long b) row → Rows-in b (with-row row)
-  unfolding with-row
-  with-row-in row x = refilled-in b i cs rs (chosen-but special row c) r (chosen-word row x)
+  unfolding with-row chosen-but
+  with-row-in row y = refilled-in b i cs rs (chosen-but special row c) (x .drawn .rows) (λ g l. go g l (eqb g special) refl)
+    where
+      go : (g : ℕ) → g < grid-rows b → (t : Bool) → eqb g special ≡ t → Word (row-long b) (cond t row (c g))
+      go g l true e = y
+      go g l false e = x .chosen g l (eqb-false g special e)
 
-  needed : List ℕ
-  needed = row-needed b i special made last c cs rs ws
+  completed : List ℕ → List ℕ
+  completed row = completing b (with-row row) ws special made
 
-  needed-word : Word (row-long b) needed
-  unfolding needed row-needed with-row
-  needed-word =
-      word-xors last (completing b (with-row (zeros (row-long b))) ws special made) stays
-      (completing-word b special (with-row (zeros (row-long b))) ws made inside (with-row-in (zeros (row-long b)) (word-zeros (row-long b))) w m)
+  completed-word : (row : List ℕ) → Word (row-long b) row → Word (row-long b) (completed row)
+  unfolding completed
+  completed-word row y = completing-word b special (with-row row) ws made (x .inside) (with-row-in row y) (x .drawn .words) (x .made-word)
+
+  -- two choices of the row, with the words that complete them
+  choices-differ : (row other : List ℕ) → Word (row-long b) row → Word (row-long b) other → xors row (completed row) ≡ xors other (completed other)
+  unfolding with-row completed
+  choices-differ row other y z =
+      ap (λ (r : List ℕ). xors r (completed row)) (sym (at-u row))
+      ∙ one-row-differs b special (x .inside) (with-row row) (with-row other) ws made (with-row-in row y) (with-row-in other z) (x .drawn .words) (x .made-word) u (one .within)
+      (λ j q ne. kept row j q ne ∙ sym (kept other j q ne))
+      ∙ ap (λ (r : List ℕ). xors r (completed other)) (at-u other)
+    where
+      u : ℕ
+      u = unheld-column b i cs special
+
+      one : Unheld b i cs special (unheld-column b i cs special)
+      one = one-unheld b (x .drawn .board) i (x .player) old cs (x .drawn .arrays) special (x .inside)
+
+      at-u : (r : List ℕ) → row-of b (refilled b i cs rs (chosen-but special r c)) special (unheld-column b i cs special) ≡ r
+      at-u r =
+          refilled-alone b i cs rs (chosen-but special r c) special (unheld-column b i cs special) (x .inside) (one .within) (one .alone) ∙ chosen-special special r c
+
+      kept : (r : List ℕ) (j : ℕ) → j < columns b → (j ≡ unheld-column b i cs special → ⊥) → row-of b (refilled b i cs rs (chosen-but special r c)) special j ≡ row-of b rs special j
+      kept r j q ne = refilled-kept b i cs rs (chosen-but special r c) special j (x .inside) q (λ e. ne (one .only j q e))
+
+  -- the row that is needed, and that with it the last word stays
+  needed-word : Word (row-long b) (row-needed b i special made last c cs rs ws)
+  unfolding row-needed completed with-row
+  needed-word = word-xors last (completed (zeros (row-long b))) (x .last-word) (completed-word (zeros (row-long b)) (word-zeros (row-long b)))
 
   pub moved-rows-in : Rows-in b (moved-rows b i special made last c cs rs ws)
-  unfolding moved-rows needed with-row
-  moved-rows-in = with-row-in needed needed-word
+  unfolding moved-rows with-row
+  moved-rows-in = with-row-in (row-needed b i special made last c cs rs ws) needed-word
 
-  -- with the row that is needed the last word stays
   pub needed-completes : completing b (moved-rows b i special made last c cs rs ws) ws special made ≡ last
-  unfolding moved-rows needed with-row row-needed
+  unfolding moved-rows row-needed completed with-row
   needed-completes =
       let blank = zeros (row-long b) in
-      let rest = completing b (with-row blank) ws special made in
-      let rest-word = completing-word b special (with-row blank) ws made inside (with-row-in blank (word-zeros (row-long b))) w m in
-      let now = completing b (with-row needed) ws special made in
-      let now-word = completing-word b special (with-row needed) ws made inside (with-row-in needed needed-word) w m in
-      let u = unheld-column b i cs special in
-      let one = one-unheld b i old cs least most player a special inside in
-      let at-u : (row : List ℕ) → row-of b (with-row row) special u ≡ row =
-      λ row. refilled-alone b i cs rs (chosen-but special row c) special u inside (one .within) (one .alone) ∙ chosen-special special row c in
-      let differ = one-row-differs b special inside (with-row needed) (with-row blank) ws made (with-row-in needed needed-word)
-      (with-row-in blank (word-zeros (row-long b))) w m u (one .within)
-      (λ j q ne. refilled-kept b i cs rs (chosen-but special needed c) special j inside q (λ z. ne (one .only j q z))
-      ∙ sym (refilled-kept b i cs rs (chosen-but special blank c) special j inside q (λ z. ne (one .only j q z)))) in
-      let sum : xors needed now ≡ rest = ap (λ (x : List ℕ). xors x now) (sym (at-u needed)) ∙ differ ∙ rw (at-u blank) (xors-zeros-left (row-long b) rest rest-word) in
-      sym (xors-cancel (row-long b) needed now needed-word now-word)
-      ∙ ap (xors needed) sum
-      ∙ xors-comm needed rest
-      ∙ ap (xors rest) (xors-comm last rest)
-      ∙ xors-cancel (row-long b) rest last rest-word stays
+      let row = row-needed b i special made last c cs rs ws in
+      let rest = completed-word blank (word-zeros (row-long b)) in
+      let sum : xors row (completed row) ≡ completed blank =
+      choices-differ row blank needed-word (word-zeros (row-long b)) ∙ xors-zeros-left (row-long b) (completed blank) rest in
+      sym (xors-cancel (row-long b) row (completed row) needed-word (completed-word row needed-word)) ∙ ap (xors row) sum
+      ∙ xors-comm row (completed blank) ∙ ap (xors (completed blank)) (xors-comm last (completed blank))
+      ∙ xors-cancel (row-long b) (completed blank) last rest (x .last-word)
