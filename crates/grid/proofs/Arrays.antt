@@ -4,17 +4,17 @@
 use mathlib.Core.Path.{_≡_, refl, sym, ap, _∙_, subst}
 use mathlib.Core.Bool.{Bool, true, false, not, cond, true≢false}
 use mathlib.Core.List.{List, [], _∷_}
-use Prim.Native.Nat.{ℕ, zero, suc, _+_, _*_, _-_, _/_, _%_, _^_, _≤_, _<_}
+use Prim.Native.Nat.{ℕ, zero, suc, _+_, _*_, _-_, _/_, _^_, _≤_, _<_}
 use native.Mathlib.Omega.{arith}
-use lib.Dec.{ltb, eqb}
+use lib.Dec.{eqb}
 use lib.ListN.{length, getD}
 use lib.Pow.{pow-pos}
 use borrow.Author.Tests.{eqb-true, eqb-false, not-true}
-use Rattle.grid.specs.Grid.{Board, columns, grid-rows, bit, Dealing, column, is-odd, array-good, dealing-good, other-marks, unheld-from}
+use Rattle.grid.specs.Grid.{Board, columns, grid-rows, bit, column, is-odd, other-marks, unheld-from}
 use Rattle.grid.specs.Arrays.{Accepted, Each-column-once, marked, Half-is-marked, Half-of-each-row, Left-alone, unheld-column, One-row-unheld}
-use Rattle.grid.specs.Hiding.{mended}
+use Rattle.grid.specs.Moving.{mended}
 use Rattle.grid.proofs.Columns.{half-fixes, others-and-parity-fix, none-marked, some-marked, others-none, mended-low, mended-parity, mended-alone, without, without-low, bit-and-half-fix}
-use Rattle.grid.proofs.Facts.{Board-in, board-in, columns-twice, columns-half, Array-in, array-in, array-of, array-at, array-long, Arrays-in, Facts, facts}
+use Rattle.grid.proofs.Facts.{Board-in, board-in, columns-twice, columns-half, array-in, array-of, array-at, array-long, Arrays-in, facts}
 use Rattle.grid.proofs.Pigeonhole.{count, Apart, pigeon, hits}
 
 -- ONE ARRAY, as a function of the place: J columns of p bits, of one parity, each once

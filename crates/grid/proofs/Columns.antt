@@ -1,14 +1,14 @@
 -- One column of p marks: its bits and its parity. A column is fixed by its marks; by its parity and the marks of all players but one; and
 -- there is just one column with given marks of the others and a given parity, the mended column. Assumes nothing.
-use mathlib.Core.Path.{_≡_, refl, sym, ap, _∙_, subst}
+use mathlib.Core.Path.{_≡_, refl, sym, ap, _∙_}
 use mathlib.Core.Bool.{Bool, true, false, not, cond, true≢false, false≢true}
 use Prim.Native.Nat.{ℕ, zero, suc, _+_, _*_, _-_, _/_, _%_, _^_, _≤_, _<_}
 use native.Mathlib.Omega.{arith}
 use native.Mathlib.Nat.{div-one, pow-succ', div-div-eq-div-mul}
-use lib.Dec.{ltb, eqb}
-use borrow.Author.Tests.{ltb-true, ltb-false, eqb-true, eqb-false, eq-eqb, ne-eqb}
+use lib.Dec.{eqb}
+use borrow.Author.Tests.{eqb-true, eqb-false, eq-eqb, ne-eqb}
 use Rattle.grid.specs.Grid.{bit, ones, is-odd, same-parity, other-marks}
-use Rattle.grid.specs.Hiding.{turned, mended}
+use Rattle.grid.specs.Moving.{turned, mended}
 use Rattle.grid.proofs.Marks.{ones-beyond}
 
 -- THE BITS OF A NUMBER, from the lowest up

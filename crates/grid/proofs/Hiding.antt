@@ -1,27 +1,27 @@
--- HIDING: with rows freely drawn, whichever player is left out, whatever point, value and chosen rows are named, just one dealing has these
--- and gives everybody else the same. The two halves are `moved-is-named`, that there is one, namely the dealing `moved`, and
--- `no-other-dealing`. Both rest on laws over arrays, rows and words alone, `another-drawn` and `drawn-alike`, for any special grid row and any
--- row that the words make there. Assumes nothing.
+-- Hiding: with rows freely drawn, whichever player is left out, whatever point, value and chosen rows are named, just one dealing has these
+-- and gives everybody else the same. The two halves are `moved-is-named`, that there is one, namely `moved`, and `no-other-dealing`. They rest
+-- on laws over arrays, rows and words alone, for any special grid row and any row that the words make there: `another-drawn`,
+-- `another-looks-same`, `another-chosen` and `needed-completes` for the first half, `drawn-alike` for the second. Assumes nothing.
 use mathlib.Core.Path.{_≡_, refl, sym, ap, _∙_, subst}
-use mathlib.Core.Bool.{Bool, true, false, cond}
+use mathlib.Core.Bool.{Bool, true}
 use mathlib.Core.List.{List, [], _∷_, _++_}
-use Prim.Native.Nat.{ℕ, zero, suc, _+_, _*_, _-_, _/_, _%_, _^_, _≤_, _<_}
+use Prim.Native.Nat.{ℕ, zero, suc, _*_, _/_, _≤_, _<_}
 use native.Mathlib.Omega.{arith}
 use lib.Dec.{eqb}
-use lib.ListN.{length, getD}
-use borrow.Author.Tests.{eqb-true, eqb-false}
+use lib.ListN.{length}
 use Rattle.xor.specs.Xor.{bytes-good}
 use Rattle.xor.proofs.Laws.{Word}
-use Rattle.grid.specs.Grid.{Board, columns, grid-rows, row-long, Dealing, column, row-of, piece, last-word, all-words, dealing-good, Held, held, marks-of, held-rows, other-marks, unheld}
+use Rattle.grid.specs.Grid.{Board, columns, grid-rows, row-long, Dealing, column, row-of, piece, last-word, all-words, dealing-good, Held, held, other-marks, unheld}
 use Rattle.grid.specs.Arrays.{unheld-column}
 use Rattle.grid.specs.Joining.{completing}
-use Rattle.grid.specs.Hiding.{Same-for-others, Named, chosen-good, Tells-nothing, chosen-good-elsewhere, Just-one-dealing, mended-arrays, refilled, chosen-but, row-needed, moved-rows, moved}
-use Rattle.grid.proofs.Arrays.{Unheld, one-unheld}
+use Rattle.grid.specs.Moving.{mended-arrays, chosen-but, row-needed, moved-rows, moved, Moved-is-named, Moving-finds}
+use Rattle.grid.specs.Hiding.{Same-for-others, Named, chosen-good, Tells-nothing, chosen-good-elsewhere, Just-one-dealing, No-other-dealing}
+use Rattle.grid.proofs.Arrays.{one-unheld}
 use Rattle.grid.proofs.Cells.{piece-word}
 use Rattle.grid.proofs.Columns.{mended-alone}
-use Rattle.grid.proofs.Facts.{Board-in, Arrays-in, Rows-in, Words-in, Facts, facts, dealing-accepted, grid-row-in}
+use Rattle.grid.proofs.Facts.{Facts, facts, dealing-accepted, grid-row-in}
 use Rattle.grid.proofs.Holding.{Same-marks, Same-held, marks-alike, alike-marks, held-alike, alike-held}
-use Rattle.grid.proofs.LastWord.{completing-word, last-word-is, last-word-word}
+use Rattle.grid.proofs.LastWord.{last-word-is, last-word-word}
 use Rattle.grid.proofs.Mending.{arrays-fixed, mended-at, mended-in, mended-marks}
 use Rattle.grid.proofs.Refilling.{Drawn, rows-fixed, refilled-alone, refilled-held, chosen-elsewhere, Change, moved-rows-in, needed-completes}
 
@@ -178,9 +178,9 @@ module _ (b : Board) (i : ℕ) (d : Dealing) (point : ℕ) (value : List ℕ) (c
   unfolding moved
   last-stays = last-word-is b (moved b i d point value c) ∙ needed-completes change
 
-  pub moved-is-named : Named b i d point value c (moved b i d point value c)
+  moved-named : Named b i d point value c (moved b i d point value c)
   unfolding moved unheld
-  moved-is-named =
+  moved-named =
       record {
         good = dealing-accepted b (moved b i d point value c) moved-facts;
         point-is = refl;
@@ -189,16 +189,19 @@ module _ (b : Board) (i : ℕ) (d : Dealing) (point : ℕ) (value : List ℕ) (c
         others = same-for-others b i d (moved b i d point value c) (facts b d good) moved-facts (another-looks-same change) refl (sym last-stays);
       }
 
+pub moved-is-named : Moved-is-named
+unfolding Moved-is-named
+moved-is-named b i point d value c good player at long bytes chosen =
+    moved-named b i d point value c good player at (record { long = long; good = bytes }) chosen
+
 -- THE SECOND HALF: two good dealings of one point, one value and the same chosen rows, that give everybody else the same, are equal
 
 dealing-is : {a o : ℕ} {v u : List ℕ} {cs ds : List ℕ} {rs ss ws vs : List (List ℕ)} → a ≡ o → v ≡ u → cs ≡ ds → rs ≡ ss → ws ≡ vs
     → _≡_ {A = Dealing} (record { point = a; value = v; arrays = cs; rows = rs; words = ws }) (record { point = o; value = u; arrays = ds; rows = ss; words = vs })
 dealing-is p q r s t = cc
 
-pub no-other-dealing : (b : Board) (i : ℕ) (d e : Dealing) → dealing-good b d ≡ true → dealing-good b e ≡ true → i < b .p
-    → d .point ≡ e .point → d .value ≡ e .value → Same-for-others b i d e
-    → ((g : ℕ) → g < grid-rows b → (g ≡ d .point / b .wide → ⊥) → unheld b d i g ≡ unheld b e i g) → d ≡ e
-unfolding unheld
+pub no-other-dealing : No-other-dealing
+unfolding No-other-dealing unheld
 no-other-dealing b i d e good other player points values same chosen =
     let f = facts b d good in
     let h = facts b e other in
@@ -217,7 +220,7 @@ no-other-dealing b i d e good other player points values same chosen =
 -- so what is named, named twice, is one dealing
 pub named-alike : (b : Board) (i : ℕ) (d : Dealing) (point : ℕ) (value : List ℕ) (c : ℕ → List ℕ) (e other : Dealing) → i < b .p
     → Named b i d point value c e → Named b i d point value c other → other ≡ e
-unfolding Same-for-others
+unfolding Same-for-others No-other-dealing
 named-alike b i d point value c e other player x y =
     no-other-dealing b i other e (y .good) (x .good) player (y .point-is ∙ sym (x .point-is)) (y .value-is ∙ sym (x .value-is))
     (λ k l ne. sym (y .others k l ne) ∙ x .others k l ne) (λ g l ne. y .rows-are g l (elsewhere g ne) ∙ sym (x .rows-are g l (elsewhere g ne)))
@@ -228,27 +231,27 @@ named-alike b i d point value c e other player x y =
 -- THE THEOREM
 
 pub just-one-dealing : Just-one-dealing
-unfolding Just-one-dealing
+unfolding Just-one-dealing Moved-is-named
 just-one-dealing b i point d value c good player at long bytes chosen =
-    let named = moved-is-named b i d point value c good player at (record { long = long; good = bytes }) chosen in
+    let named = moved-is-named b i point d value c good player at long bytes chosen in
     (moved b i d point value c, named, λ other h. named-alike b i d point value c (moved b i d point value c) other player named h)
 
--- document 03's statement, with chosen rows asked to be good everywhere
+-- document 03's statement, which asks good chosen rows everywhere
 pub tells-nothing : Tells-nothing
 unfolding Tells-nothing Just-one-dealing chosen-good chosen-good-elsewhere
 tells-nothing b i point d value c good player at long bytes chosen =
     just-one-dealing b i point d value c good player at long bytes (λ g l ne. chosen g)
 
--- TURNED ROUND: every good dealing that looks the same to all but player i is found by moving, with its own point, value and unheld rows
+-- TURNED ROUND: a good dealing is named by its own point, value and unheld rows
 
-pub moved-finds : (b : Board) (i : ℕ) (d e : Dealing) (c : ℕ → List ℕ) → dealing-good b d ≡ true → dealing-good b e ≡ true → i < b .p → Same-for-others b i d e
-    → ((g : ℕ) → g < grid-rows b → (g ≡ e .point / b .wide → ⊥) → unheld b e i g ≡ c g) → moved b i d (e .point) (e .value) c ≡ e
-unfolding unheld chosen-good-elsewhere
-moved-finds b i d e c good other player same chosen =
+pub moving-finds : Moving-finds
+unfolding Moving-finds unheld chosen-good-elsewhere
+moving-finds b i d e c good other player same chosen =
     let f = facts b e other in
-    let own : Named b i d (e .point) (e .value) c e = record { good = other; point-is = refl; value-is = refl; rows-are = chosen; others = same } in
+    let own : Named b i d (e .point) (e .value) c e =
+    record { good = other; point-is = refl; value-is = refl; rows-are = chosen; others = same } in
     named-alike b i d (e .point) (e .value) c e (moved b i d (e .point) (e .value) c) player own
-    (moved-is-named b i d (e .point) (e .value) c good player (f .point-in) (f .value) (λ g l ne. row-good g l (chosen g l ne)))
+    (moved-named b i d (e .point) (e .value) c good player (f .point-in) (f .value) (λ g l ne. row-good g l (chosen g l ne)))
   where
     row-good : (g : ℕ) → g < grid-rows b → unheld b e i g ≡ c g → (length (c g) ≡ row-long b) × (bytes-good (c g) ≡ true)
     row-good g l q =

@@ -1,17 +1,16 @@
 -- Arrays seen by everybody but player i: the others' marks and the parities fix the arrays, and mending player i's marks gives the arrays of
 -- any other special grid row, with the others' marks unchanged. Assumes nothing.
 use mathlib.Core.Path.{_≡_, refl, sym, ap, _∙_, subst}
-use mathlib.Core.Bool.{Bool, true, false, cond}
-use mathlib.Core.List.{List, [], _∷_, _++_}
-use Prim.Native.Nat.{ℕ, zero, suc, _+_, _*_, _-_, _/_, _%_, _^_, _≤_, _<_}
+use mathlib.Core.List.{List}
+use Prim.Native.Nat.{ℕ, zero, suc, _+_, _*_, _/_, _%_, _<_}
 use native.Mathlib.Omega.{arith}
 use native.Mathlib.Nat.{mod-lt, div-add-mod', div-lt-iff-lt-mul}
 use lib.Arith.{digits-lt, digits-div}
 use lib.Dec.{eqb}
 use lib.ListN.{length, getD}
 use lib.Seq.{ext-getD}
-use Rattle.grid.specs.Grid.{Board, columns, grid-rows, bit, column, is-odd}
-use Rattle.grid.specs.Hiding.{mended, listed, mended-arrays}
+use Rattle.grid.specs.Grid.{Board, columns, grid-rows, bit, column}
+use Rattle.grid.specs.Moving.{mended, listed, mended-arrays}
 use Rattle.grid.proofs.Columns.{others-and-parity-fix, mended-low, mended-parity, mended-others}
 use Rattle.grid.proofs.Facts.{Board-in, Arrays-in, columns-pos}
 use Rattle.grid.proofs.Holding.{Same-marks}

@@ -1,12 +1,12 @@
 -- Rows seen by everybody but player i. The one row of the special grid row that the others do not hold is fixed by the last word; and for any
 -- row there is a choice of it that makes the last word come out: the row that is needed. Assumes nothing.
-use mathlib.Core.Path.{_≡_, refl, sym, ap, _∙_, subst}
+use mathlib.Core.Path.{_≡_, refl, sym, ap, _∙_}
 use mathlib.Core.Bool.{Bool, true, false, cond, true≢false}
-use mathlib.Core.List.{List, [], _∷_, _++_}
-use Prim.Native.Nat.{ℕ, zero, suc, _+_, _*_, _-_, _/_, _%_, _^_, _≤_, _<_}
+use mathlib.Core.List.{List, []}
+use Prim.Native.Nat.{ℕ, zero, suc, _+_, _*_, _/_, _≤_, _<_}
 use native.Mathlib.Omega.{arith}
 use lib.Dec.{eqb}
-use lib.ListN.{length, getD}
+use lib.ListN.{getD}
 use lib.Seq.{ext-getD}
 use borrow.Author.Tests.{eqb-true, eqb-false, eq-eqb, ne-eqb}
 use Rattle.xor.specs.Xor.{xors, zeros}
@@ -14,7 +14,7 @@ use Rattle.xor.proofs.Laws.{Word, xors-comm, xors-left-comm, xors-cancel, xors-
 use Rattle.grid.specs.Grid.{Board, columns, grid-rows, row-long, bit, column, row-of, other-marks}
 use Rattle.grid.specs.Joining.{over, completing}
 use Rattle.grid.specs.Arrays.{unheld-column}
-use Rattle.grid.specs.Hiding.{listed, refilled, chosen-but, row-needed, moved-rows}
+use Rattle.grid.specs.Moving.{refilled, chosen-but, row-needed, moved-rows}
 use Rattle.grid.proofs.Arrays.{Unheld, one-unheld}
 use Rattle.grid.proofs.Columns.{none-marked, some-marked}
 use Rattle.grid.proofs.Facts.{Board-in, Arrays-in, Rows-in, Words-in}
