@@ -3,15 +3,14 @@
 -- on laws over arrays, rows and words alone, for any special grid row and any row that the words make there: `another-drawn`,
 -- `another-looks-same`, `another-chosen` and `needed-completes` for the first half, `drawn-alike` for the second. Assumes nothing.
 use mathlib.Core.Path.{_≡_, refl, sym, ap, _∙_, subst}
-use mathlib.Core.Bool.{Bool, true}
-use mathlib.Core.List.{List, [], _∷_, _++_}
-use Prim.Native.Nat.{ℕ, zero, suc, _*_, _/_, _≤_, _<_}
-use native.Mathlib.Omega.{arith}
+use mathlib.Core.Bool.{true}
+use mathlib.Core.List.{List}
+use Prim.Native.Nat.{ℕ, _/_, _<_}
 use lib.Dec.{eqb}
 use lib.ListN.{length}
 use Rattle.xor.specs.Xor.{bytes-good}
 use Rattle.xor.proofs.Laws.{Word}
-use Rattle.grid.specs.Grid.{Board, columns, grid-rows, row-long, Dealing, column, row-of, piece, last-word, all-words, dealing-good, Held, held, other-marks, unheld}
+use Rattle.grid.specs.Grid.{Board, grid-rows, row-long, Dealing, column, row-of, piece, last-word, dealing-good, other-marks, unheld}
 use Rattle.grid.specs.Arrays.{unheld-column}
 use Rattle.grid.specs.Joining.{completing}
 use Rattle.grid.specs.Moving.{mended-arrays, chosen-but, row-needed, moved-rows, moved, Moved-is-named, Moving-finds}
@@ -20,17 +19,12 @@ use Rattle.grid.proofs.Arrays.{one-unheld}
 use Rattle.grid.proofs.Cells.{piece-word}
 use Rattle.grid.proofs.Columns.{mended-alone}
 use Rattle.grid.proofs.Facts.{Facts, facts, dealing-accepted, grid-row-in}
-use Rattle.grid.proofs.Holding.{Same-marks, Same-held, marks-alike, alike-marks, held-alike, alike-held}
+use Rattle.grid.proofs.Holding.{Looks-same, same-words, looks-same, same-for-others}
 use Rattle.grid.proofs.LastWord.{last-word-is, last-word-word}
 use Rattle.grid.proofs.Mending.{arrays-fixed, mended-at, mended-in, mended-marks}
 use Rattle.grid.proofs.Refilling.{Drawn, rows-fixed, refilled-alone, refilled-held, chosen-elsewhere, Change, moved-rows-in, needed-completes}
 
 -- ARRAYS, ROWS AND WORDS, for any special grid row and any row that the words make there
-
--- everybody but player i has the same marks and the same rows
-pub record Looks-same (b : Board) (i : ℕ) (cs : List ℕ) (rs : List (List ℕ)) (ds : List ℕ) (ss : List (List ℕ)) : Type 0 where
-  pub marks : (k : ℕ) → k < b .p → (k ≡ i → ⊥) → Same-marks k (grid-rows b * columns b) cs ds
-  pub rows : (k : ℕ) → k < b .p → (k ≡ i → ⊥) → Same-held k (grid-rows b * columns b) cs rs ss
 
 -- THERE IS NO OTHER: what the others have, the words and the chosen rows fix arrays and rows
 pub drawn-alike : {b : Board} {special : ℕ} {made cs ds : List ℕ} {rs ss ws : List (List ℕ)} (i : ℕ) → i < b .p
@@ -94,62 +88,6 @@ drawn b d f =
       rows = f .rows;
       words = f .words;
     }
-
--- what everybody else holds, taken apart and put together
-
-another-player : (p i : ℕ) → 2 ≤ p → (k : ℕ) × (k < p) × (k ≡ i → ⊥)
-another-player p zero h = (1, omega arith, λ e. omega arith)
-another-player p (suc i) h = (0, omega arith, λ e. omega arith)
-
--- the last of a list, and those before it
-last-two : (ws vs : List (List ℕ)) (x y : List ℕ) → length ws ≡ length vs → ws ++ (x ∷ []) ≡ vs ++ (y ∷ []) → (ws ≡ vs) × (x ≡ y)
-last-two [] [] x y e h = (refl, cc)
-last-two [] (v ∷ vs) x y e h = let none : ⊥ = omega arith in absurd none
-last-two (w ∷ ws) [] x y e h = let none : ⊥ = omega arith in absurd none
-last-two (w ∷ ws) (v ∷ vs) x y e h =
-    let first : w ≡ v = cc in
-    let rest : ws ++ (x ∷ []) ≡ vs ++ (y ∷ []) = cc in
-    let r = last-two ws vs x y (omega arith) rest in
-    (rw (first, r .0), r .1)
-
-module _ (b : Board) (i : ℕ) (d e : Dealing) (f : Facts b d) (h : Facts b e) where
-  same-long : length (d .arrays) ≡ length (e .arrays)
-  same-long = f .arrays .long ∙ sym (h .arrays .long)
-
-  pub same-words : Same-for-others b i d e → (d .words ≡ e .words) × (last-word b d ≡ last-word b e)
-  unfolding Same-for-others held all-words
-  same-words same =
-      let other = another-player (b .p) i (f .board .players-least) in
-      last-two (d .words) (e .words) (last-word b d) (last-word b e) (f .words .long ∙ sym (h .words .long))
-      (ap (λ (x : Held). x .words) (same (other .0) (other .1) (other .2)))
-
-  pub looks-same : Same-for-others b i d e → Looks-same b i (d .arrays) (d .rows) (e .arrays) (e .rows)
-  unfolding Same-for-others held
-  looks-same same = record { marks = marks; rows = rows }
-    where
-      marks : (k : ℕ) → k < b .p → (k ≡ i → ⊥) → Same-marks k (grid-rows b * columns b) (d .arrays) (e .arrays)
-      marks k l ne =
-          subst (λ (n : ℕ). Same-marks k n (d .arrays) (e .arrays)) (f .arrays .long)
-          (alike-marks k (d .arrays) (e .arrays) same-long (ap (λ (x : Held). x .marks) (same k l ne)))
-
-      rows : (k : ℕ) → k < b .p → (k ≡ i → ⊥) → Same-held k (grid-rows b * columns b) (d .arrays) (d .rows) (e .rows)
-      rows k l ne =
-          subst (λ (n : ℕ). Same-held k n (d .arrays) (d .rows) (e .rows)) (f .arrays .long)
-          (alike-held k (d .arrays) (e .arrays) (d .rows) (e .rows) same-long (f .rows .long ∙ sym (f .arrays .long)) (h .rows .long ∙ sym (h .arrays .long))
-          (alike-marks k (d .arrays) (e .arrays) same-long (ap (λ (x : Held). x .marks) (same k l ne))) (ap (λ (x : Held). x .rows) (same k l ne)))
-
-  pub same-for-others : Looks-same b i (d .arrays) (d .rows) (e .arrays) (e .rows) → d .words ≡ e .words → last-word b d ≡ last-word b e → Same-for-others b i d e
-  unfolding Same-for-others held all-words
-  same-for-others looks words last k l ne =
-      let marks = subst (λ (n : ℕ). Same-marks k n (d .arrays) (e .arrays)) (sym (f .arrays .long)) (looks .marks k l ne) in
-      let rows = subst (λ (n : ℕ). Same-held k n (d .arrays) (d .rows) (e .rows)) (sym (f .arrays .long)) (looks .rows k l ne) in
-      held-is (marks-alike k (d .arrays) (e .arrays) same-long marks)
-      (held-alike k (d .arrays) (e .arrays) (d .rows) (e .rows) same-long (f .rows .long ∙ sym (f .arrays .long)) (h .rows .long ∙ sym (h .arrays .long)) marks rows)
-      (ap (λ (ws : List (List ℕ)). ws ++ (last-word b d ∷ [])) words ∙ ap (λ (x : List ℕ). e .words ++ (x ∷ [])) last)
-    where
-      held-is : {ms ns : List Bool} {rs ss ws vs : List (List ℕ)} → ms ≡ ns → rs ≡ ss → ws ≡ vs
-          → _≡_ {A = Held} (record { marks = ms; rows = rs; words = ws }) (record { marks = ns; rows = ss; words = vs })
-      held-is p q r = cc
 
 -- THE FIRST HALF: the dealing that hiding finds has the named point, value and chosen rows, and everybody else holds the same
 

@@ -1,12 +1,15 @@
--- What a player holds, place by place: two dealings give a player the same marks and rows exactly where the player's marks are the same at
--- every place, and the rows are the same at every marked one. Assumes nothing.
-use mathlib.Core.Path.{_≡_, refl, sym, ap, _∙_}
+-- What the players hold, place by place: two dealings give a player the same marks and rows exactly where the player's marks are the same at
+-- every place, and the rows are the same at every marked one. So two good dealings give everybody but player i the same exactly where they
+-- look the same so, and have the same words. Assumes nothing.
+use mathlib.Core.Path.{_≡_, refl, sym, ap, _∙_, subst}
 use mathlib.Core.Bool.{Bool, true, false, cond, true≢false}
-use mathlib.Core.List.{List, [], _∷_}
-use Prim.Native.Nat.{ℕ, zero, suc, _<_}
+use mathlib.Core.List.{List, [], _∷_, _++_}
+use Prim.Native.Nat.{ℕ, zero, suc, _*_, _≤_, _<_}
 use native.Mathlib.Omega.{arith}
 use lib.ListN.{length, getD}
-use Rattle.grid.specs.Grid.{bit, marks-of, held-rows}
+use Rattle.grid.specs.Grid.{Board, columns, grid-rows, bit, Dealing, last-word, all-words, Held, marks-of, held-rows, held}
+use Rattle.grid.specs.Hiding.{Same-for-others}
+use Rattle.grid.proofs.Facts.{Facts}
 
 -- a player's marks are the same at every place
 unfoldable pub Same-marks : (player long : ℕ) → (cs ds : List ℕ) → Type 0
@@ -77,3 +80,67 @@ alike-held i (c ∷ cs) (d ∷ ds) (r ∷ rs) (s ∷ ss) e f g h k zero l t =
 alike-held i (c ∷ cs) (d ∷ ds) (r ∷ rs) (s ∷ ss) e f g h k (suc m) l t =
     alike-held i cs ds rs ss (omega arith) (omega arith) (omega arith) (λ n q. h (suc n) (omega arith))
     (first-two (bit c i) r s (held-rows i cs rs) (held-rows i ds ss) (rw (← (h 0 (omega arith))) at k) .1) m (omega arith) t
+
+-- EVERYBODY BUT ONE PLAYER
+
+-- everybody but player i has the same marks and the same rows
+pub record Looks-same (b : Board) (i : ℕ) (cs : List ℕ) (rs : List (List ℕ)) (ds : List ℕ) (ss : List (List ℕ)) : Type 0 where
+  pub marks : (k : ℕ) → k < b .p → (k ≡ i → ⊥) → Same-marks k (grid-rows b * columns b) cs ds
+  pub rows : (k : ℕ) → k < b .p → (k ≡ i → ⊥) → Same-held k (grid-rows b * columns b) cs rs ss
+
+-- there is another player, who tells that the words are the same
+another-player : (p i : ℕ) → 2 ≤ p → (k : ℕ) × (k < p) × (k ≡ i → ⊥)
+another-player p zero h = (1, omega arith, λ e. omega arith)
+another-player p (suc i) h = (0, omega arith, λ e. omega arith)
+
+-- equal lists have equal last entries, and the same before them
+last-two : (ws vs : List (List ℕ)) (x y : List ℕ) → length ws ≡ length vs → ws ++ (x ∷ []) ≡ vs ++ (y ∷ []) → (ws ≡ vs) × (x ≡ y)
+last-two [] [] x y e h = (refl, cc)
+last-two [] (v ∷ vs) x y e h = let none : ⊥ = omega arith in absurd none
+last-two (w ∷ ws) [] x y e h = let none : ⊥ = omega arith in absurd none
+last-two (w ∷ ws) (v ∷ vs) x y e h =
+    let first : w ≡ v = cc in
+    let rest : ws ++ (x ∷ []) ≡ vs ++ (y ∷ []) = cc in
+    let r = last-two ws vs x y (omega arith) rest in
+    (rw (first, r .0), r .1)
+
+module _ (b : Board) (i : ℕ) (d e : Dealing) (f : Facts b d) (h : Facts b e) where
+  same-long : length (d .arrays) ≡ length (e .arrays)
+  same-long = f .arrays .long ∙ sym (h .arrays .long)
+
+  row-each : {x : Dealing} → Facts b x → length (x .rows) ≡ length (x .arrays)
+  row-each t = t .rows .long ∙ sym (t .arrays .long)
+
+  pub same-words : Same-for-others b i d e → (d .words ≡ e .words) × (last-word b d ≡ last-word b e)
+  unfolding Same-for-others held all-words
+  same-words same =
+      let other = another-player (b .p) i (f .board .players-least) in
+      last-two (d .words) (e .words) (last-word b d) (last-word b e) (f .words .long ∙ sym (h .words .long))
+      (ap (λ (x : Held). x .words) (same (other .0) (other .1) (other .2)))
+
+  pub looks-same : Same-for-others b i d e → Looks-same b i (d .arrays) (d .rows) (e .arrays) (e .rows)
+  unfolding Same-for-others held
+  looks-same same =
+      record {
+        marks = λ k l ne. subst (λ (n : ℕ). Same-marks k n (d .arrays) (e .arrays)) (f .arrays .long) (marks k l ne);
+        rows = λ k l ne. subst (λ (n : ℕ). Same-held k n (d .arrays) (d .rows) (e .rows)) (f .arrays .long)
+            (alike-held k (d .arrays) (e .arrays) (d .rows) (e .rows) same-long (row-each f) (row-each h) (marks k l ne)
+            (ap (λ (x : Held). x .rows) (same k l ne)));
+      }
+    where
+      marks : (k : ℕ) → k < b .p → (k ≡ i → ⊥) → Same-marks k (length (d .arrays)) (d .arrays) (e .arrays)
+      marks k l ne = alike-marks k (d .arrays) (e .arrays) same-long (ap (λ (x : Held). x .marks) (same k l ne))
+
+  pub same-for-others :
+      Looks-same b i (d .arrays) (d .rows) (e .arrays) (e .rows) → d .words ≡ e .words → last-word b d ≡ last-word b e → Same-for-others b i d e
+  unfolding Same-for-others held all-words
+  same-for-others looks words last k l ne =
+      let marks = subst (λ (n : ℕ). Same-marks k n (d .arrays) (e .arrays)) (sym (f .arrays .long)) (looks .marks k l ne) in
+      let rows = subst (λ (n : ℕ). Same-held k n (d .arrays) (d .rows) (e .rows)) (sym (f .arrays .long)) (looks .rows k l ne) in
+      held-is (marks-alike k (d .arrays) (e .arrays) same-long marks)
+      (held-alike k (d .arrays) (e .arrays) (d .rows) (e .rows) same-long (row-each f) (row-each h) marks rows)
+      (ap (λ (ws : List (List ℕ)). ws ++ (last-word b d ∷ [])) words ∙ ap (λ (x : List ℕ). e .words ++ (x ∷ [])) last)
+    where
+      held-is : {ms ns : List Bool} {rs ss ws vs : List (List ℕ)} → ms ≡ ns → rs ≡ ss → ws ≡ vs
+          → _≡_ {A = Held} (record { marks = ms; rows = rs; words = ws }) (record { marks = ns; rows = ss; words = vs })
+      held-is p q r = cc
