@@ -15,7 +15,7 @@ use Rattle.grid.specs.Arrays.{Accepted, Each-column-once, marked, Half-i
 use Rattle.grid.specs.Moving.{mended}
 use Rattle.grid.proofs.Columns.{half-fixes, others-and-parity-fix, none-marked, some-marked, others-none, mended-low, mended-parity, mended-alone, without, without-low, bit-and-half-fix}
 use Rattle.grid.proofs.Facts.{Board-in, board-in, columns-twice, columns-half, array-in, array-of, array-at, array-long, Arrays-in, facts}
-use Rattle.grid.proofs.Pigeonhole.{count, Apart, pigeon, hits}
+use Rattle.grid.proofs.Pigeonhole.{count, count-both, count-first, count-same, Apart, pigeon, hits}
 
 -- ONE ARRAY, as a function of the place: J columns of p bits, of one parity, each once
 
@@ -61,16 +61,6 @@ each-column-once b o cs t c h e =
 
 -- A PLAYER MARKS HALF OF THE COLUMNS
 
--- the selected places and the others are all
-count-both : (n : ℕ) (s : ℕ → Bool) → count n s + count n (λ j. not (s j)) ≡ n
-unfolding count
-count-both zero s = refl
-count-both (suc n) s = go (s n) (count-both n s)
-  where
-    go : (t : Bool) → count n s + count n (λ j. not (s j)) ≡ n → (cond t 1 0 + count n s) + (cond (not t) 1 0 + count n (λ j. not (s j))) ≡ suc n
-    go true ih = omega arith
-    go false ih = omega arith
-
 module _ (k J : ℕ) (half : J ≡ 2 * 2 ^ k) (o : Bool) (col : ℕ → ℕ) (a : Array (suc (suc k)) J o col) (i : ℕ) (h : i < suc (suc k)) (most : suc (suc k) ≤ 8) where
   -- of the columns that a player marks alike, or leaves alike, there are at most half
   alike : (s : ℕ → Bool) (mark : Bool) → ((j : ℕ) → s j ≡ true → bit (col j) i ≡ mark) → count J s ≤ 2 ^ k
@@ -97,12 +87,7 @@ half-counted b f o col a i h =
     let r = half-of-them (b .p - 2) (columns b) half o col (subst (λ (p : ℕ). Array p (columns b) o col) e a) i (omega arith) (omega arith) in
     omega arith
 
--- the count over a list, from its head
-count-first : (n : ℕ) (s : ℕ → Bool) → count (suc n) s ≡ cond (s 0) 1 0 + count n (λ j. s (suc j))
-unfolding count
-count-first zero s = refl
-count-first (suc n) s = let r = count-first n s in omega arith
-
+-- the columns that a player marks, counted by place
 marked-is : (i : ℕ) (cs : List ℕ) → marked i cs ≡ count (length cs) (λ j. bit (getD cs j 0) i)
 unfolding marked count
 marked-is i [] = refl
@@ -113,12 +98,6 @@ unfolding Half-is-marked
 half-is-marked b o cs t i h =
     marked-is i cs ∙ ap (λ (n : ℕ). count n (λ j. bit (getD cs j 0) i)) (t .long)
     ∙ half-counted b (board-in b (t .board)) o (λ j. getD cs j 0) (listed-array b o cs t) i h
-
--- a count depends on the places below n only
-count-same : (n : ℕ) (s t : ℕ → Bool) → ((j : ℕ) → j < n → s j ≡ t j) → count n s ≡ count n t
-unfolding count
-count-same zero s t h = refl
-count-same (suc n) s t h = rw (h n (omega arith), count-same n s t (λ j l. h j (omega arith)))
 
 pub half-of-each-row : Half-of-each-row
 unfolding Half-of-each-row array-of
