@@ -1,0 +1,2 @@
+-- The laws and theorems of keys: lists, numbers in groups, marks, parts, opening, and the promises. Assumes nothing.
+pub mod Lists
