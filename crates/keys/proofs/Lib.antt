@@ -3,3 +3,4 @@ pub mod Lists
 pub mod Numbers
 pub mod Marks
 pub mod Parts
+pub mod Accepted
