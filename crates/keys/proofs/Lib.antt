@@ -4,3 +4,4 @@ pub mod Numbers
 pub mod Marks
 pub mod Parts
 pub mod Accepted
+pub mod Opening
