@@ -5,3 +5,5 @@ pub mod Marks
 pub mod Parts
 pub mod Accepted
 pub mod Opening
+pub mod Dealing
+pub mod Promise

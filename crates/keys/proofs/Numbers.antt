@@ -175,10 +175,10 @@ all-read true false n m w h = absurd (false≢true h)
 all-read false i n m w h = absurd (false≢true h)
 
 -- a header read is the only writing of its numbers, and stands in front of the rest of the key
-pub header-reads : (ks : List ℕ) → bytes-good ks ≡ true → head-in ks .good ≡ true →
+pub header-again : (ks : List ℕ) → bytes-good ks ≡ true → head-in ks .good ≡ true →
     ks ≡ header (head-in ks .board) (head-in ks .player) ++ head-in ks .rest
 unfolding header head-in head-of board
-header-reads ks g h =
+header-again ks g h =
     let p = number-in ks in
     let i = number-in (p .rest) in
     let n = number-in (i .rest) in
