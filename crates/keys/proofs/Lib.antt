@@ -7,3 +7,4 @@ pub mod Accepted
 pub mod Opening
 pub mod Dealing
 pub mod Promise
+pub mod Document03
