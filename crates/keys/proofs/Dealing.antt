@@ -1,27 +1,26 @@
 -- What Deal writes: an accepted dealing is a good dealing under every good rule, its keys are the writing of the dealt parts, these parts
 -- are good, and a share by them is the dealing's share. Assumes nothing.
-use mathlib.Core.Path.{_≡_, refl, sym, ap, _∙_, subst}
+use mathlib.Core.Path.{_≡_, refl, sym, ap, _∙_}
 use mathlib.Core.Bool.{Bool, true, false, _&&_, not, cond}
-use mathlib.Core.List.{List, [], _∷_, _++_, append-assoc}
+use mathlib.Core.List.{List, [], _∷_, _++_}
 use Prim.Native.Nat.{ℕ, zero, suc, _+_, _*_, _-_, _/_, _%_, _≤_, _<_}
 use native.Mathlib.Nat.{mul-le-mul-right}
 use native.Mathlib.Omega.{arith}
 use lib.Dec.{leb, eqb}
-use lib.ListN.{length, getD, take, drop, length-append, length-drop, take-append-drop}
-use lib.Seq.{drop-drop, take-at, drop-at, drop-cons, length-take-le, getD-drop, take-add, take-all}
+use lib.ListN.{length, getD, take, drop, length-drop}
+use lib.Seq.{drop-drop, drop-cons, length-take-le, take-add, take-all}
 use borrow.Author.Tests.{eqb-true, leb-false, not-false}
 use Rattle.xor.specs.Xor.{xors, zeros, bytes-good}
 use Rattle.xor.proofs.Laws.{Word, and-left, and-right}
-use Rattle.grid.specs.Grid.{Board, columns, grid-rows, row-long, board-refusal, bit, Dealing, column, row-of, all-words, cell, share-from, share, arrays-good, each-long, dealing-good, marks-of, held-rows}
+use Rattle.grid.specs.Grid.{Board, columns, grid-rows, row-long, board-refusal, bit, column, row-of, all-words, cell, share-from, share, arrays-good, each-long, marks-of, held-rows}
 use Rattle.grid.specs.Arrays.{marked, Half-is-marked}
-use Rattle.grid.proofs.Facts.{Board-in, board-in, Facts, facts, dealing-accepted, arrays-in, arrays-split, array-of, array-long, rows-in, words-in, columns-pos, grid-row-in, cell-in, words-long}
+use Rattle.grid.proofs.Facts.{Board-in, board-in, Facts, arrays-in, arrays-split, array-of, array-long, rows-in, words-in, grid-row-in, words-long}
 use Rattle.grid.proofs.Arrays.{half-is-marked}
 use Rattle.grid.proofs.LastWord.{all-words-long, all-words-are}
-use Rattle.keys.specs.Keys.{Lent, dealing, deal-refusal, header, mark-bytes, packed, held-seeds, body-from, glued, rows-from, words-from, key, Parts, packed-marks, rows-written, key-written, parts-share, share-by-parts}
+use Rattle.keys.specs.Keys.{Lent, dealing, deal-refusal, mark-bytes, held-seeds, body-from, glued, rows-from, words-from, key, rows-written, key-written, parts-share, share-by-parts}
 use Rattle.keys.specs.Promise.{Rule-good, lent-good, dealt-parts}
 use Rattle.keys.proofs.Lists.{length-words, take-words, drop-words, each-cons, each-words, each-head, each-tail}
 use Rattle.keys.proofs.Marks.{marks-set, packed-is, take-marks, drop-marks, length-marks-of}
-use Rattle.keys.proofs.Parts.{Rows-good}
 use Rattle.keys.proofs.Accepted.{passed, refusing, last-passed, Parts-good}
 use Rattle.keys.proofs.Opening.{row-word-of}
 

@@ -1,15 +1,15 @@
 -- Document 03's own statements, each under its statement's name in small letters: its opening, which reads the words from the whole body, is
 -- the opening from the header and the part alone, at every square; and a rule that is good on every list is good on seeds. Assumes nothing.
-use mathlib.Core.Path.{_≡_, refl, sym, ap, ap₂, _∙_}
-use mathlib.Core.Bool.{Bool, true, cond}
+use mathlib.Core.Path.{_≡_, refl, sym, ap₂, _∙_}
+use mathlib.Core.Bool.{cond}
 use mathlib.Core.List.{List}
 use Prim.Native.Nat.{ℕ, zero, suc, _+_, _*_, _-_, _/_, _%_, _≤_, _<_}
 use native.Mathlib.Nat.{div-zero, div-mul-le-self, le-div-iff-mul-le, zero-lt-suc}
 use native.Mathlib.Omega.{arith}
-use lib.ListN.{length, getD, take, drop}
+use lib.ListN.{getD, take, drop}
 use Rattle.xor.specs.Xor.{xors, zeros}
-use Rattle.grid.specs.Grid.{Board, columns, grid-rows, row-long, bit, cell}
-use Rattle.keys.specs.Keys.{mark-bytes, row-part, word-behind, opened-from, opened-part, opened, head-in, key}
+use Rattle.grid.specs.Grid.{Board, columns, grid-rows, bit, cell}
+use Rattle.keys.specs.Keys.{mark-bytes, row-part, opened-from, opened-part, opened, head-in, key}
 use Rattle.keys.specs.Promise as Promise
 use Rattle.keys.specs.Document03 as Document03
 use Rattle.keys.proofs.Opening.{word-behind-is}

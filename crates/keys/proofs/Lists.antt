@@ -1,16 +1,15 @@
 -- Strings cut into parts of one length and glued together again, and take and drop at known places. Assumes nothing.
 use mathlib.Core.Path.{_≡_, refl, sym, ap, _∙_}
-use mathlib.Core.Bool.{Bool, true, false, _&&_}
+use mathlib.Core.Bool.{true, _&&_}
 use mathlib.Core.List.{List, [], _∷_, _++_, append-assoc}
-use Prim.Native.Nat.{ℕ, zero, suc, _+_, _*_, _-_, _≤_, _<_}
-use native.Mathlib.Nat.{mul-le-mul-right}
+use Prim.Native.Nat.{ℕ, zero, suc, _+_, _*_, _≤_, _<_}
 use native.Mathlib.Omega.{arith}
 use lib.Dec.{eqb}
-use lib.ListN.{length, getD, take, drop, length-append, length-drop, take-append-drop, length-take, replicate, replicate-append-replicate}
-use lib.Seq.{take-add, drop-drop, take-nil, drop-nil, take-at, drop-at, take-append-le, take-all, drop-append-add, drop-cons, length-take-le, getD-drop}
+use lib.ListN.{length, getD, take, drop, length-append, length-drop, replicate-append-replicate}
+use lib.Seq.{take-add, drop-drop, take-at, drop-at, length-take-le}
 use borrow.Author.Tests.{eqb-true, eq-eqb}
 use Rattle.xor.specs.Xor.{xors, zeros, bytes-good}
-use Rattle.xor.proofs.Laws.{Word, word-take, word-drop, good-append, good-take, good-drop, append-xors, and-left, and-right, and-both}
+use Rattle.xor.proofs.Laws.{Word, good-append, good-take, good-drop, append-xors, and-left, and-right, and-both}
 use Rattle.grid.specs.Grid.{each-long}
 use Rattle.keys.specs.Keys.{glued, words-from}
 

@@ -1,25 +1,24 @@
 -- Full tables and squares opened alone: a share by good parts has w bytes, a table N × w, and opening a square from the header and the
 -- part that begins at its grid row gives the share by the key's parts. Assumes nothing.
-use mathlib.Core.Path.{_≡_, refl, sym, ap, _∙_, subst}
-use mathlib.Core.Bool.{Bool, true, false, _&&_, cond}
-use mathlib.Core.List.{List, [], _∷_, _++_, append-assoc}
+use mathlib.Core.Path.{_≡_, refl, sym, ap, _∙_}
+use mathlib.Core.Bool.{Bool, true, false, cond}
+use mathlib.Core.List.{List, [], _∷_, _++_}
 use Prim.Native.Nat.{ℕ, zero, suc, _+_, _*_, _-_, _/_, _%_, _≤_, _<_}
 use native.Mathlib.Nat.{mul-le-mul-right}
 use native.Mathlib.Omega.{arith}
-use lib.Dec.{eqb}
-use lib.ListN.{length, getD, take, drop, length-append, length-drop}
+use lib.ListN.{length, getD, take, drop, length-drop}
 use lib.Seq.{drop-drop, drop-at}
-use Rattle.xor.specs.Xor.{xors, zeros, bytes-good}
+use Rattle.xor.specs.Xor.{xors, zeros}
 use Rattle.xor.proofs.Laws.{Word, word-xors, word-zeros}
 use Rattle.grid.specs.Grid.{Board, columns, grid-rows, row-long, bit, cell, each-long}
 use Rattle.grid.proofs.Facts.{Board-in, grid-row-in, cell-in, each-word}
 use Rattle.grid.proofs.Cells.{cell-word}
-use Rattle.keys.specs.Keys.{mark-bytes, stride, count-marks, marks-good, words-from, row-part, word-behind, opened-from, opened-part, opened, head-in, Parts, marks-in, marks-of-rows, seeds-of-rows, parts-of, parts-in, parts-share, share-by-parts, table-from, table}
+use Rattle.keys.specs.Keys.{mark-bytes, stride, count-marks, marks-good, words-from, row-part, word-behind, opened-from, opened-part, Parts, marks-in, marks-of-rows, seeds-of-rows, parts-of, parts-share, share-by-parts, table-from}
 use Rattle.keys.specs.Promise.{Rule-good}
 use Rattle.keys.proofs.Lists.{length-words, words-at, each-head, each-tail, each-drop, in-a-row, row-word, row-at}
 use Rattle.keys.proofs.Marks.{marks-set, length-marks}
-use Rattle.keys.proofs.Parts.{Rows-good, row-tests}
-use Rattle.keys.proofs.Accepted.{Parts-good, Body-in, body-parts}
+use Rattle.keys.proofs.Parts.{row-tests}
+use Rattle.keys.proofs.Accepted.{Parts-good, Body-in}
 
 -- A SHARE BY THE PARTS has w bytes
 

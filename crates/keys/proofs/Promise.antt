@@ -1,20 +1,19 @@
 -- The promises of specs/Promise.antt, each under its statement's name in small letters. Assumes nothing.
 use mathlib.Core.Path.{_≡_, refl, sym, ap, _∙_, subst}
-use mathlib.Core.Bool.{Bool, true, false, cond}
-use mathlib.Core.List.{List, [], _++_, append-assoc, append-nil}
+use mathlib.Core.Bool.{true, cond}
+use mathlib.Core.List.{List, _++_, append-assoc}
 use Prim.Native.Nat.{ℕ, zero, suc, _+_, _*_, _-_, _≤_, _<_}
 use native.Mathlib.Omega.{arith}
 use lib.Dec.{eqb}
-use lib.ListN.{length, take, drop}
 use borrow.Author.Tests.{eq-eqb, ne-eqb}
-use Rattle.xor.specs.Xor.{xors, zeros, bytes-good}
+use Rattle.xor.specs.Xor.{zeros, bytes-good}
 use Rattle.xor.proofs.Laws.{Word, word-xors, word-zeros}
 use Rattle.grid.specs.Grid.{Board, share, joined-from}
 use Rattle.grid.specs.Joining.{over, Shares-join}
-use Rattle.grid.proofs.Facts.{Board-in, dealing-accepted}
+use Rattle.grid.proofs.Facts.{dealing-accepted}
 use Rattle.grid.proofs.Joining.{shares-join}
-use Rattle.keys.specs.Keys.{Lent, dealing, key, keys-from, key-long, key-refusal, head-in, opened, parts-of, parts-in, key-written, share-by-parts, table-from, table}
-use Rattle.keys.specs.Promise.{Rule-good, lent-good, dealt-parts, entry, point-table, Header-reads, Reads-parts, Only-writing, Same-parts, Dealt-accepted, Keys-apart, Table-long, Opens-alone, Keys-open, Tables-join, Full-tables-join}
+use Rattle.keys.specs.Keys.{Lent, dealing, key, keys-from, key-long, key-refusal, head-in, opened, parts-of, parts-in, key-written, share-by-parts, table}
+use Rattle.keys.specs.Promise.{Rule-good, lent-good, dealt-parts, entry, point-table, Header-reads, Reads-parts, Only-writing, Same-parts, Dealt-accepted, Keys-long, Keys-apart, Table-long, Opens-alone, Keys-open, Tables-join, Full-tables-join}
 use Rattle.keys.proofs.Lists.{in-a-row, row-same, row-word, row-at, row-split, row-xors, row-zeros}
 use Rattle.keys.proofs.Numbers.{header-again}
 use Rattle.keys.proofs.Accepted.{Key-in, key-in, key-accepted, body-in, body-parts, Parts-good, key-again, written-head, written-key, written-long, written-good, written-reads}
@@ -47,19 +46,19 @@ module _ (b : Board) (f : List ℕ → List ℕ) (l : Lent) (i : ℕ) (lent : le
   is-written : key b f l i ≡ key-written b i (dealt-parts b f l i)
   is-written = key-is b f l i dealt h
 
-  dealt-board : head-in (key b f l i) .board ≡ b
+  pub dealt-board : head-in (key b f l i) .board ≡ b
   dealt-board = rw (is-written, written-head b i (dealt .board) h (dealt-parts b f l i) good)
 
-  dealt-player : head-in (key b f l i) .player ≡ i
+  pub dealt-player : head-in (key b f l i) .player ≡ i
   dealt-player = rw (is-written, written-head b i (dealt .board) h (dealt-parts b f l i) good)
 
-  dealt-reads : parts-in (key b f l i) ≡ dealt-parts b f l i
+  pub dealt-reads : parts-in (key b f l i) ≡ dealt-parts b f l i
   dealt-reads = rw is-written (written-reads b i (dealt .board) h (dealt-parts b f l i) good)
 
-  dealt-key : Key-in (key b f l i)
+  pub dealt-key : Key-in (key b f l i)
   dealt-key = rw is-written (written-key b i (dealt .board) h (dealt-parts b f l i) good)
 
-  dealt-word : Word (key-long b) (key b f l i)
+  pub dealt-word : Word (key-long b) (key b f l i)
   dealt-word =
       rw is-written
       (record {
@@ -79,10 +78,16 @@ dealt-accepted b f l i lent rule h =
     (key-accepted (key b f l i) (dealt-key b f l i lent rule h), word .long, word .good)
 
 -- what Deal writes is the keys in a row
-keys-row : (k i : ℕ) (b : Board) (f : List ℕ → List ℕ) (l : Lent) → keys-from k i b f l ≡ in-a-row k i (key b f l)
+pub keys-row : (k i : ℕ) (b : Board) (f : List ℕ → List ℕ) (l : Lent) → keys-from k i b f l ≡ in-a-row k i (key b f l)
 unfolding keys-from in-a-row
 keys-row zero i b f l = refl
 keys-row (suc k) i b f l = ap (λ (ks : List ℕ). key b f l i ++ ks) (keys-row k (suc i) b f l)
+
+pub keys-long : Keys-long
+unfolding Keys-long
+keys-long b f l lent rule =
+    let word = row-word (key-long b) (b .p) 0 (key b f l) (λ i p q. dealt-word b f l i lent rule (omega arith)) in
+    rw (keys-row (b .p) 0 b f l) ((word .long, word .good))
 
 pub keys-apart : Keys-apart
 unfolding Keys-apart
@@ -104,7 +109,7 @@ table-long f ks r g rule =
     (word .long, word .good)
 
 -- a square of an accepted key opens as the share by its parts
-opens-by-parts : (f : List ℕ → List ℕ) (ks : List ℕ) (a : ℕ) → key-refusal ks ≡ 0 → bytes-good ks ≡ true → a < head-in ks .board .n →
+pub opens-by-parts : (f : List ℕ → List ℕ) (ks : List ℕ) (a : ℕ) → key-refusal ks ≡ 0 → bytes-good ks ≡ true → a < head-in ks .board .n →
     opened f ks a ≡ share-by-parts (head-in ks .board) f (parts-in ks) a
 unfolding opened parts-in
 opens-by-parts f ks a r g h =
@@ -122,7 +127,7 @@ opens-alone f ks a r g rule h =
 -- dealt keys, their shares and tables
 module _ (b : Board) (f : List ℕ → List ℕ) (l : Lent) (lent : lent-good b l ≡ true) (rule : Rule-good b f) where
   -- a dealt key's table is the dealing's shares in a row
-  dealt-table : (i : ℕ) → i < b .p → table f (key b f l i) ≡ in-a-row (b .n) 0 (share b (dealing b f l) i)
+  pub dealt-table : (i : ℕ) → i < b .p → table f (key b f l i) ≡ in-a-row (b .n) 0 (share b (dealing b f l) i)
   unfolding table
   dealt-table i h =
       rw (dealt-reads b f l i lent rule h, dealt-board b f l i lent rule h)
@@ -130,7 +135,7 @@ module _ (b : Board) (f : List ℕ → List ℕ) (l : Lent) (lent : lent-good b 
       ∙ row-same (b .n) 0 (share-by-parts b f (dealt-parts b f l i)) (share b (dealing b f l) i)
       (λ a p q. dealt-share b f l i a (lent-in b l lent) h (omega arith)))
 
-  dealt-share-word : (i a : ℕ) → i < b .p → a < b .n → Word (b .w) (share b (dealing b f l) i a)
+  pub dealt-share-word : (i a : ℕ) → i < b .p → a < b .n → Word (b .w) (share b (dealing b f l) i a)
   dealt-share-word i a h p =
       let t = lent-in b l lent in
       subst (λ (xs : List ℕ). Word (b .w) xs) (dealt-share b f l i a t h p)

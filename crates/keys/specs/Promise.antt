@@ -3,11 +3,11 @@
 -- which is asked here of 32-byte seeds of bytes only, so that each statement says more; document 03's own are in Document03.antt.
 -- Quotations are document 01's. Assumes nothing.
 use mathlib.Core.Path.{_≡_}
-use mathlib.Core.Bool.{Bool, true, false, _&&_, _||_, not, cond}
-use mathlib.Core.List.{List, [], _∷_, _++_}
-use Prim.Native.Nat.{ℕ, zero, suc, _+_, _*_, _-_, _/_, _%_, _^_, _≤_, _<_, min}
-use lib.Dec.{ltb, leb, eqb}
-use lib.ListN.{length, getD, set, take, drop, replicate}
+use mathlib.Core.Bool.{Bool, true, _&&_, cond}
+use mathlib.Core.List.{List, _++_}
+use Prim.Native.Nat.{ℕ, suc, _*_, _-_, _<_}
+use lib.Dec.{eqb}
+use lib.ListN.{length, take, drop}
 use Rattle.xor.specs.Xor.{zeros, bytes-good}
 use Rattle.grid.specs.Grid.{Board, columns, grid-rows, row-long, share, joined-from, marks-of, held-rows, all-words}
 use Rattle.grid.specs.Joining.{over}
@@ -62,6 +62,12 @@ unfoldable pub Dealt-accepted : Type 0
 Dealt-accepted =
     (b : Board) (f : List ℕ → List ℕ) (l : Lent) (i : ℕ) → lent-good b l ≡ true → Rule-good b f → i < b .p →
     (key-refusal (key b f l i) ≡ 0) × (length (key b f l i) ≡ key-long b) × (bytes-good (key b f l i) ≡ true)
+
+-- "Deal's p × K bytes"
+unfoldable pub Keys-long : Type 0
+Keys-long =
+    (b : Board) (f : List ℕ → List ℕ) (l : Lent) → lent-good b l ≡ true → Rule-good b f →
+    (length (keys-from (b .p) 0 b f l) ≡ b .p * key-long b) × (bytes-good (keys-from (b .p) 0 b f l) ≡ true)
 
 -- "cut after every K": the i-th K bytes of what Deal writes are player i's key
 unfoldable pub Keys-apart : Type 0
