@@ -132,10 +132,9 @@ pub word-behind-is : (b : Board) (bs : List ℕ) (g j : ℕ) → g ≤ grid-rows
     word-behind b (row-part b bs g) g j ≡ take (row-long b) (drop (grid-rows b * stride b + j * row-long b) bs)
 unfolding word-behind row-part
 word-behind-is b bs g j h =
-    let rest = (grid-rows b - g) * stride b in
-    let place : g * stride b + (rest + j * row-long b) ≡ grid-rows b * stride b + j * row-long b =
+    let place : g * stride b + ((grid-rows b - g) * stride b + j * row-long b) ≡ grid-rows b * stride b + j * row-long b =
     omega (arith, rows-behind g (grid-rows b) (stride b) h) in
-    rw (drop-drop (rest + j * row-long b) (g * stride b) bs, place)
+    ap (take (row-long b)) (drop-drop ((grid-rows b - g) * stride b + j * row-long b) (g * stride b) bs ∙ ap (λ (n : ℕ). drop n bs) place)
 
 -- OPENING goes over the marks and takes the seeds one after another, as a share by the parts does
 
