@@ -4,15 +4,16 @@ use mathlib.Core.Path.{_≡_, refl, sym, ap, _∙_}
 use mathlib.Core.Bool.{Bool, true, false, _&&_, cond}
 use mathlib.Core.List.{List, [], _∷_}
 use Prim.Native.Nat.{ℕ, suc, _+_, _*_, _-_, _≤_, _<_}
-use native.Mathlib.Numerals.{add-one}
+use native.Mathlib.Nat.{sub-zero}
 use native.Mathlib.Omega.{arith}
 use borrow.Author.Tests.{lt-ltb, le-ltb, ltb-true, ltb-false}
 use lib.Dec.{ltb}
 use lib.ListN.{length, getD, take, drop, length-drop, drop-of-length-le, List·getD-eq-default}
-use lib.Seq.{drop-cons, drop-drop, getD-drop}
+use lib.Seq.{drop-cons, drop-drop, drop-length, getD-drop}
 use Rattle.keys.specs.Keys.{Got, got, none-got, number-in}
 use Rattle.keys.specs.Answers.{number-of, number-at}
 use Rattle.keys.specs.declared.reader.Number.{Number}
+use Rattle.keys.specs.declared.reader.Reader.{Reader}
 
 -- a number by its first three bytes, where those past the end count as 0
 unfoldable grouped : (a b c : ℕ) → List ℕ → Got
@@ -86,3 +87,83 @@ module _ (ks : List ℕ) (at a : ℕ) (inside : at < length ks) (first : a ≡ g
       pub four-groups : 128 ≤ c → Number.Broken ≡ number-at ks at
       unfolding number-at number-of grouped got
       four-groups h = rw (there, le-ltb a 128 long, ← second, le-ltb b 128 longer, ← third, le-ltb c 128 h)
+
+-- ys is the end of xs
+Ends : (xs ys : List ℕ) → Type 0
+Ends xs ys = drop (length xs - length ys) xs ≡ ys
+
+ends-drop : (xs : List ℕ) (k : ℕ) → Ends xs (drop k xs)
+unfolding Ends
+ends-drop xs k = go (ltb k (length xs)) refl
+  where
+    go : (t : Bool) → ltb k (length xs) ≡ t → drop (length xs - length (drop k xs)) xs ≡ drop k xs
+    go true e =
+        let h : k < length xs = ltb-true k (length xs) e in
+        let n : length xs - length (drop k xs) ≡ k = omega (arith, length-drop k xs) in rw n
+    go false e =
+        let h : length xs ≤ k = ltb-false k (length xs) e in
+        rw (drop-of-length-le xs h, sub-zero, drop-length)
+
+ends-shorter : (xs ys : List ℕ) → Ends xs ys → length ys ≤ length xs
+unfolding Ends
+ends-shorter xs ys e = omega (arith, ap length e, length-drop (length xs - length ys) xs)
+
+ends-trans : (xs ys zs : List ℕ) → Ends xs ys → Ends ys zs → Ends xs zs
+unfolding Ends
+ends-trans xs ys zs e f =
+    let a : length ys ≤ length xs = ends-shorter xs ys e in
+    let b : length zs ≤ length ys = ends-shorter ys zs f in
+    let n : length xs - length zs ≡ (length xs - length ys) + (length ys - length zs) = omega arith in
+    rw (n, ← drop-drop (length ys - length zs) (length xs - length ys) xs, e) f
+
+ends-none : (xs : List ℕ) → Ends xs []
+unfolding Ends
+ends-none xs = rw (sub-zero, drop-length)
+
+ends-chosen : (s t u v : Bool) (x y z : ℕ) (bs : List ℕ)
+    → Ends bs
+      ((cond s (got x (drop 1 bs))
+      (cond t (cond u (got y (drop 2 bs)) none-got) (cond v (got z (drop 3 bs)) none-got))) .rest)
+unfolding got
+ends-chosen true t u v x y z bs = ends-drop bs 1
+ends-chosen false true true v x y z bs = ends-drop bs 2
+ends-chosen false true false v x y z bs = ends-none bs
+ends-chosen false false u true x y z bs = ends-drop bs 3
+ends-chosen false false u false x y z bs = ends-none bs
+
+-- what is left behind a number is the end of what it was read from
+ends-number : (bs : List ℕ) → Ends bs (number-in bs .rest)
+unfolding number-in grouped
+ends-number [] = ends-none []
+ends-number (a ∷ bs) =
+    rw number-in-is
+    (ends-chosen (ltb a 128) (ltb (getD bs 0 0) 128) (ltb 0 (getD bs 0 0)) (ltb (getD bs 1 0) 128 && ltb 0 (getD bs 1 0)) _ _ _ (a ∷ bs))
+
+-- what the reader's answer says of the number that stands there
+whole-good : (l v : ℕ) (next : Reader) (g : Got) → Number.Whole v next ≡ number-of l g → (g .good ≡ true) × (g .value ≡ v) × (next .at ≡ l - length (g .rest))
+unfolding number-of
+whole-good l v next g e = go (g .good) refl
+  where
+    go : (t : Bool) → g .good ≡ t → (g .good ≡ true) × (g .value ≡ v) × (next .at ≡ l - length (g .rest))
+    go true h = (h, cc, cc)
+    go false h = let z : _≡_ {A = ℕ} 0 1 = cc in absurd (omega arith)
+
+got-by : (t : Bool) (x v : ℕ) (xs ys : List ℕ) → t ≡ true → x ≡ v → xs ≡ ys → record { good = t; value = x; rest = xs } ≡ got v ys
+unfolding got
+got-by t x v xs ys d e f = cc
+
+pub read-whole : (ks : List ℕ) (at v : ℕ) (next : Reader) → Number.Whole v next ≡ number-at ks at → number-in (drop at ks) ≡ got v (drop (next .at) ks)
+unfolding number-at Ends
+read-whole ks at v next e =
+    let g = number-in (drop at ks) in
+    let w = whole-good (length ks) v next g e in
+    let ends : drop (length ks - length (g .rest)) ks ≡ g .rest = ends-trans ks (drop at ks) (g .rest) (ends-drop ks at) (ends-number (drop at ks)) in
+    got-by (g .good) (g .value) v (g .rest) (drop (next .at) ks) (w .0) (w .1) (rw (w .2) (sym ends))
+
+pub read-broken : (ks : List ℕ) (at : ℕ) → Number.Broken ≡ number-at ks at → number-in (drop at ks) .good ≡ false
+unfolding number-at number-of
+read-broken ks at e = go (number-in (drop at ks) .good) refl
+  where
+    go : (t : Bool) → number-in (drop at ks) .good ≡ t → number-in (drop at ks) .good ≡ false
+    go true h = let z : _≡_ {A = ℕ} 0 1 = cc in absurd (omega arith)
+    go false h = h
