@@ -122,8 +122,8 @@ ends-none xs = rw (sub-zero, drop-length)
 
 ends-chosen : (s t u v : Bool) (x y z : ℕ) (bs : List ℕ)
     → Ends bs
-      ((cond s (got x (drop 1 bs))
-      (cond t (cond u (got y (drop 2 bs)) none-got) (cond v (got z (drop 3 bs)) none-got))) .rest)
+    ((cond s (got x (drop 1 bs))
+    (cond t (cond u (got y (drop 2 bs)) none-got) (cond v (got z (drop 3 bs)) none-got))) .rest)
 unfolding got
 ends-chosen true t u v x y z bs = ends-drop bs 1
 ends-chosen false true true v x y z bs = ends-drop bs 2

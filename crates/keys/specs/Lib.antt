@@ -1,3 +1,4 @@
 pub mod Keys
 pub mod Promise
 pub mod Answers
+pub mod Held
