@@ -10,7 +10,8 @@ use borrow.Author.Tests.{lt-ltb, le-ltb, ltb-true, ltb-false}
 use lib.Dec.{ltb}
 use lib.ListN.{length, getD, take, drop, length-drop, drop-of-length-le, List·getD-eq-default}
 use lib.Seq.{drop-cons, drop-drop, drop-length, getD-drop}
-use Rattle.keys.specs.Keys.{Got, got, none-got, number-in}
+use Rattle.grid.specs.Grid.{board}
+use Rattle.keys.specs.Keys.{Got, got, none-got, number-in, Head, head-of, head-in}
 use Rattle.keys.specs.Answers.{number-of, number-at}
 use Rattle.keys.specs.declared.reader.Number.{Number}
 use Rattle.keys.specs.declared.reader.Reader.{Reader}
@@ -167,3 +168,50 @@ read-broken ks at e = go (number-in (drop at ks) .good) refl
     go : (t : Bool) → number-in (drop at ks) .good ≡ t → number-in (drop at ks) .good ≡ false
     go true h = let z : _≡_ {A = ℕ} 0 1 = cc in absurd (omega arith)
     go false h = h
+
+-- THE HEADER, number by number: each is read where the one before ended
+module _ (ks : List ℕ) (p : ℕ) (after-p : Reader) where
+  pub broken-first : Number.Broken ≡ number-at ks 0 → head-in ks .good ≡ false
+  unfolding head-in head-of
+  broken-first e = rw (read-broken ks 0 e)
+
+  module _ (one : Number.Whole p after-p ≡ number-at ks 0) where
+    pub broken-second : Number.Broken ≡ number-at ks (after-p .at) → head-in ks .good ≡ false
+    unfolding head-in head-of got
+    broken-second e = rw (read-whole ks 0 p after-p one, read-broken ks (after-p .at) e)
+
+    module _ (i : ℕ) (after-i : Reader) (two : Number.Whole i after-i ≡ number-at ks (after-p .at)) where
+      pub broken-third : Number.Broken ≡ number-at ks (after-i .at) → head-in ks .good ≡ false
+      unfolding head-in head-of got
+      broken-third e =
+          rw (read-whole ks 0 p after-p one, read-whole ks (after-p .at) i after-i two, read-broken ks (after-i .at) e)
+
+      module _ (n : ℕ) (after-n : Reader) (three : Number.Whole n after-n ≡ number-at ks (after-i .at)) where
+        pub broken-fourth : Number.Broken ≡ number-at ks (after-n .at) → head-in ks .good ≡ false
+        unfolding head-in head-of got
+        broken-fourth e =
+            rw (read-whole ks 0 p after-p one, read-whole ks (after-p .at) i after-i two, read-whole ks (after-i .at) n after-n three, read-broken ks (after-n .at) e)
+
+        module _ (m : ℕ) (after-m : Reader) (four : Number.Whole m after-m ≡ number-at ks (after-n .at)) where
+          pub broken-fifth : Number.Broken ≡ number-at ks (after-m .at) → head-in ks .good ≡ false
+          unfolding head-in head-of got
+          broken-fifth e =
+              rw (
+                read-whole ks 0 p after-p one,
+                read-whole ks (after-p .at) i after-i two,
+                read-whole ks (after-i .at) n after-n three,
+                read-whole ks (after-n .at) m after-m four,
+                read-broken ks (after-m .at) e,
+              )
+
+          pub whole-head : (w : ℕ) (after-w : Reader) → Number.Whole w after-w ≡ number-at ks (after-m .at)
+              → head-in ks ≡ record { good = true; board = board p n m w; player = i; rest = drop (after-w .at) ks }
+          unfolding head-in head-of got
+          whole-head w after-w five =
+              rw (
+                read-whole ks 0 p after-p one,
+                read-whole ks (after-p .at) i after-i two,
+                read-whole ks (after-i .at) n after-n three,
+                read-whole ks (after-n .at) m after-m four,
+                read-whole ks (after-m .at) w after-w five,
+              )
