@@ -1,2 +1,7 @@
+-- The laws and theorems of keys: lists, numbers in groups, marks, parts, opening, and the promises; and the laws that the functions cite:
+-- reading and counting. Assumes nothing.
+pub mod Lists
+pub mod Numbers
+pub mod Marks
 pub mod Reading
 pub mod Counting

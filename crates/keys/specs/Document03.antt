@@ -1,0 +1,58 @@
+-- Document 03's own text, word for word, of what Keys.antt and Promise.antt say otherwise: opening, which read the words from the whole
+-- body, and `Rule-good`, which asked good rows of every list. proofs/Document03.antt shows that this opening is `opened` of Keys.antt at every
+-- square, and proves document 03's statements under its own names. Assumes nothing: these are definitions and statements.
+use mathlib.Core.Path.{_≡_}
+use mathlib.Core.Bool.{Bool, true, cond}
+use mathlib.Core.List.{List}
+use Prim.Native.Nat.{ℕ, zero, suc, _+_, _*_, _/_, _%_, _<_}
+use lib.Dec.{eqb}
+use lib.ListN.{length, getD, take, drop}
+use Rattle.xor.specs.Xor.{xors, zeros, bytes-good}
+use Rattle.grid.specs.Grid.{Board, columns, grid-rows, row-long, bit, cell, share, joined-from}
+use Rattle.keys.specs.Keys.{mark-bytes, stride, row-part, head-in, Lent, dealing, key, key-long, key-refusal, table, parts-in}
+use Rattle.keys.specs.Promise.{lent-good, entry, dealt-parts}
+
+-- OPENING from a key's bytes: the part that begins at a grid row, and the words behind all of them
+unfoldable pub word-in : Board → (body : List ℕ) → (j : ℕ) → List ℕ
+word-in b bs j = take (row-long b) (drop (grid-rows b * stride b + j * row-long b) bs)
+
+unfoldable pub opened-from : (left j : ℕ) → (seen : ℕ) → Board → (rule : List ℕ → List ℕ) → (body part : List ℕ) → (c : ℕ) → List ℕ → List ℕ
+opened-from zero j n b f bs ps c xs = xs
+opened-from (suc k) j n b f bs ps c xs =
+    let seed = take 32 (drop (mark-bytes b + 32 * n) ps) in
+    let one = xors (cell b c (word-in b bs j)) (cell b c (f seed)) in
+    cond (bit (getD ps (j / 8) 0) (j % 8)) (opened-from k (suc j) (suc n) b f bs ps c (xors xs one)) (opened-from k (suc j) n b f bs ps c xs)
+
+unfoldable pub opened : (rule : List ℕ → List ℕ) → (key : List ℕ) → (a : ℕ) → List ℕ
+opened f ks a =
+    let h = head-in ks in
+    let b = h .board in
+    opened-from (columns b) 0 0 b f (h .rest) (row-part b (h .rest) (a / b .wide)) (a % b .wide) (zeros (b .w))
+
+-- rules that give each seed a row's bytes
+unfoldable pub Rule-good : Board → (List ℕ → List ℕ) → Type 0
+Rule-good b f = (seed : List ℕ) → (length (f seed) ≡ row-long b) × (bytes-good (f seed) ≡ true)
+
+-- THE THIRD DEMAND: all players' tables join to the value on the point's square and zero elsewhere, under every rule
+unfoldable pub Tables-join : Type 0
+Tables-join =
+    (b : Board) (f : List ℕ → List ℕ) (l : Lent) (a : ℕ) → lent-good b l ≡ true → Rule-good b f → a < b .n →
+    joined-from (b .p) 0 b (dealing b f l) a ≡ cond (eqb a (l .point)) (l .value) (zeros (b .w))
+
+-- dealt keys open as the dealing's shares
+unfoldable pub Keys-open : Type 0
+Keys-open =
+    (b : Board) (f : List ℕ → List ℕ) (l : Lent) (i a : ℕ) → lent-good b l ≡ true → Rule-good b f → i < b .p → a < b .n →
+    (key-refusal (key b f l i) ≡ 0) × (length (key b f l i) ≡ key-long b) × (opened f (key b f l i) a ≡ share b (dealing b f l) i a)
+
+-- every accepted key opens a square alone as that entry of its own full table
+unfoldable pub Opens-alone : Type 0
+Opens-alone =
+    (f : List ℕ → List ℕ) (ks : List ℕ) (a : ℕ) → key-refusal ks ≡ 0 → bytes-good ks ≡ true → Rule-good (head-in ks .board) f → a < head-in ks .board .n →
+    entry (head-in ks .board) (table f ks) a ≡ opened f ks a
+
+-- THE SECOND DEMAND, where it speaks of a rule: a dealt key is read as the parts dealt
+unfoldable pub Reads-parts : Type 0
+Reads-parts =
+    (b : Board) (f : List ℕ → List ℕ) (l : Lent) (i : ℕ) → lent-good b l ≡ true → Rule-good b f → i < b .p →
+    (parts-in (key b f l i) ≡ dealt-parts b f l i) × (head-in (key b f l i) .board ≡ b) × (head-in (key b f l i) .player ≡ i)
