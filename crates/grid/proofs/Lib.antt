@@ -1,4 +1,11 @@
+pub mod Accepted
 pub mod Arrays
+pub mod Checking
 pub mod Columns
+pub mod Counting
 pub mod Facts
 pub mod Pigeonhole
+pub mod Powers
+pub mod Sensors
+pub mod Table
+pub mod Widths

@@ -5,3 +5,4 @@ pub mod Numbers
 pub mod Marks
 pub mod Reading
 pub mod Counting
+pub mod Lengths

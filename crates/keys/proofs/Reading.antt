@@ -10,11 +10,12 @@ use borrow.Author.Tests.{lt-ltb, le-ltb, ltb-true, ltb-false}
 use lib.Dec.{ltb}
 use lib.ListN.{length, getD, take, drop, length-drop, drop-of-length-le, List·getD-eq-default}
 use lib.Seq.{drop-cons, drop-drop, drop-length, getD-drop}
-use Rattle.grid.specs.Grid.{board}
+use Rattle.grid.specs.Grid.{Board, board}
 use Rattle.keys.specs.Keys.{Got, got, none-got, number-in, Head, head-of, head-in}
-use Rattle.keys.specs.Answers.{number-of, number-at}
+use Rattle.keys.specs.Answers.{number-of, number-at, header-of, heading-in}
 use Rattle.keys.specs.declared.reader.Number.{Number}
 use Rattle.keys.specs.declared.reader.Reader.{Reader}
+use Rattle.keys.specs.declared.reader.Heading.{Heading}
 
 -- a number by its first three bytes, where those past the end count as 0
 unfoldable grouped : (a b c : ℕ) → List ℕ → Got
@@ -170,11 +171,11 @@ read-broken ks at e = go (number-in (drop at ks) .good) refl
     go false h = h
 
 -- THE HEADER, number by number: each is read where the one before ended
-module _ (ks : List ℕ) (p : ℕ) (after-p : Reader) where
-  pub broken-first : Number.Broken ≡ number-at ks 0 → head-in ks .good ≡ false
-  unfolding head-in head-of
-  broken-first e = rw (read-broken ks 0 e)
+pub broken-first : (ks : List ℕ) → Number.Broken ≡ number-at ks 0 → head-in ks .good ≡ false
+unfolding head-in head-of
+broken-first ks e = rw (read-broken ks 0 e)
 
+module _ (ks : List ℕ) (p : ℕ) (after-p : Reader) where
   module _ (one : Number.Whole p after-p ≡ number-at ks 0) where
     pub broken-second : Number.Broken ≡ number-at ks (after-p .at) → head-in ks .good ≡ false
     unfolding head-in head-of got
@@ -215,3 +216,21 @@ module _ (ks : List ℕ) (p : ℕ) (after-p : Reader) where
                 read-whole ks (after-n .at) m after-m four,
                 read-whole ks (after-m .at) w after-w five,
               )
+
+-- the answer for the whole header
+pub heading-broken : (ks : List ℕ) → head-in ks .good ≡ false → Heading.Broken ≡ heading-in ks
+unfolding heading-in
+heading-broken ks h = rw h
+
+-- a reader never stands past the end
+pub read-inside : (ks : List ℕ) (at v : ℕ) (next : Reader) → Number.Whole v next ≡ number-at ks at → next .at ≤ length ks
+unfolding number-at
+read-inside ks at v next e = omega (arith, whole-good (length ks) v next (number-in (drop at ks)) e .2)
+
+pub heading-whole : (ks : List ℕ) (p i n m w : ℕ) (next : Reader) → next .at ≤ length ks
+    → head-in ks ≡ record { good = true; board = board p n m w; player = i; rest = drop (next .at) ks }
+    → Heading.Whole (record { board = record { players = p; positions = n; width = m; «value_bytes» = w }; player = i }) next
+      ≡ heading-in ks
+unfolding heading-in header-of board
+heading-whole ks p i n m w next inside e =
+    let at : length ks - length (drop (next .at) ks) ≡ next .at = omega (arith, length-drop (next .at) ks) in rw (e, at)

@@ -24,11 +24,8 @@ number-at ks at = number-of (length ks) (number-in (drop at ks))
 unfoldable pub header-of : Head → Header
 header-of h =
     record {
-      players = h .board .p;
+      board = record { players = h .board .p; positions = h .board .n; width = h .board .wide; «value_bytes» = h .board .w };
       player = h .player;
-      positions = h .board .n;
-      width = h .board .wide;
-      «value_bytes» = h .board .w;
     }
 
 -- the header that a key begins with, with the place where the rest begins

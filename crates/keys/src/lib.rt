@@ -2,4 +2,5 @@
 // a key (10, 1 to 5, 11, 12, 13), and the held seed as a part of the caller's own key.
 // The lent keys are bytes of every kind: neither `check_key` nor `held_seed` requires anything of them.
 pub mod grid_row;
+pub mod length;
 pub mod reader;

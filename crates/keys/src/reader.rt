@@ -1,5 +1,6 @@
 // Reading a header: a reader by value, whose method consumes it and answers the number with the reader moved on, and the header's
 // five numbers one after another.
+use grid::board::Board;
 ghost use mathlib.Core.Path.{_≡_};
 ghost use lib.ListN.{getD};
 ghost use Rattle.keys.specs.Answers.{number-at, heading-in};
@@ -16,13 +17,10 @@ pub enum Number {
     Broken,
 }
 
-// The five numbers of a header, in its order.
+// The five numbers of a header: those of the board, and the player.
 pub struct Header {
-    pub players: u32,
+    pub board: Board,
     pub player: u32,
-    pub positions: u32,
-    pub width: u32,
-    pub value_bytes: u32,
 }
 
 // A header, and the reader behind it; or none, as one of its numbers is none.
@@ -92,12 +90,12 @@ pub fn header_in(key: &[u8]) -> Heading
     let Number::Whole(value_bytes, start) = start.number(key) else {
         return Heading::Broken;
     };
-    let header = Header {
+    let board = Board {
         players,
-        player,
         positions,
         width,
         value_bytes,
     };
+    let header = Header { board, player };
     Heading::Whole(header, start)
 }
