@@ -11,3 +11,9 @@ use Rattle.keys.specs.Keys.{header, head-in, mark-bytes, count-marks, sp
 -- "column j is bit j mod 8 of byte j div 8"
 unfoldable pub marked : (part : List ℕ) → (column : ℕ) → Bool
 marked ps j = bit (getD ps (j / 8) 0) (j % 8)
+
+-- "A player marks exactly J/2 columns", and "spare bits zero": what 13 asks of one grid row
+unfoldable pub row-fits : Board → (part : List ℕ) → Bool
+row-fits b ps =
+    eqb (count-marks (columns b) 0 ps) (columns b / 2)
+    && spare-from (8 * mark-bytes b - columns b) (columns b) ps
