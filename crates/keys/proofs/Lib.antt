@@ -6,3 +6,4 @@ pub mod Marks
 pub mod Reading
 pub mod Counting
 pub mod Lengths
+pub mod Checks
