@@ -1,3 +1,6 @@
+-- `keys::check::check_key` meets its contract: each way out is a link of the chain of refusals. Assumes nothing.
+use mathlib.Core.Path.{sym, _∙_}
+use Rattle.keys.proofs.Checks.{refused-number, refused-board, refused-player, refused-length, refused-marks, accepted-key}
 use borrow.Author.Needs.{needs}
 use Rattle.keys.proofs.check.check_key.Statement.{statement}
 use Rattle.keys.proofs.check.check_key.Tie as tie
@@ -23,7 +26,7 @@ enum-told c = search needs
 
 -- src/check.rt:34:9
 returns : tie.Need-returns
-returns c = ?
+returns c = refused-number _ (sym (c .enum-told .given .1) ∙ c .before .before .header-in .ensures)
 
 -- src/check.rt:37:9
 refusal-requires : tie.Need-refusal-requires
@@ -31,11 +34,16 @@ refusal-requires c κs = search needs
 
 -- src/check.rt:39:9
 returns-2 : tie.Need-returns-2
-returns-2 c = ?
+returns-2 c =
+    let k = c .before .before .before in
+    refused-board _ _ _ (sym (k .before .header .given .1) ∙ k .before .before .before .header-in .ensures) _ (c .before .refusal .ensures) (c .if1 .taken)
 
 -- src/check.rt:42:9
 returns-3 : tie.Need-returns-3
-returns-3 c = ?
+returns-3 c =
+    let e = c .before .before .before in
+    let k = e .before .before .before in
+    refused-player _ _ _ (sym (k .before .header .given .1) ∙ k .before .before .before .header-in .ensures) (sym (e .before .refusal .ensures) ∙ e .if1 .left) (c .if2 .taken)
 
 -- src/check.rt:44:21
 key-length-requires : tie.Need-key-length-requires
@@ -43,7 +51,12 @@ key-length-requires c κs = search needs
 
 -- src/check.rt:45:9
 returns-4 : tie.Need-returns-4
-returns-4 c = ?
+returns-4 c =
+    let own = c .before .before in
+    let e = own .before .before .before in
+    let k = e .before .before .before in
+    refused-length _ _ _ (sym (k .before .header .given .1) ∙ k .before .before .before .header-in .ensures) (sym (e .before .refusal .ensures) ∙ e .if1 .left) (own .if2 .left) _ (c .before .key-length .ensures)
+    (c .if3 .taken)
 
 -- src/check.rt:48:20
 part-from-requires : tie.Need-part-from-requires
@@ -55,11 +68,23 @@ marks-good-requires c κs = search needs
 
 -- src/check.rt:49:9
 returns-5 : tie.Need-returns-5
-returns-5 c = ?
+returns-5 c =
+    let l = c .before .before .before in
+    let own = l .before .before in
+    let e = own .before .before .before in
+    let k = e .before .before .before in
+    refused-marks _ _ _ (sym (k .before .header .given .1) ∙ k .before .before .before .header-in .ensures) (sym (e .before .refusal .ensures) ∙ e .if1 .left) (own .if2 .left) _ (l .before .key-length .ensures)
+    (l .if3 .left) _ (c .before .before .part-from .ensures) _ (c .before .marks-good .ensures) (c .if4 .taken)
 
 -- src/check.rt:30:1
 returns-6 : tie.Need-returns-6
-returns-6 c = ?
+returns-6 c =
+    let l = c .before .before .before in
+    let own = l .before .before in
+    let e = own .before .before .before in
+    let k = e .before .before .before in
+    accepted-key _ _ _ (sym (k .before .header .given .1) ∙ k .before .before .before .header-in .ensures) (sym (e .before .refusal .ensures) ∙ e .if1 .left) (own .if2 .left) _ (l .before .key-length .ensures)
+    (l .if3 .left) _ (c .before .before .part-from .ensures) _ (c .before .marks-good .ensures) (c .if4 .left)
 
 pub check-key-spec : {M : Type 1} → statement M
 check-key-spec =
