@@ -245,7 +245,7 @@ first-array : (b : Board) (cs : List ℕ) → take (columns b) cs ≡ array-of b
 unfolding array-of
 first-array b cs = let e : 0 * columns b ≡ 0 = omega arith in rw e
 
-arrays-split : (k g : ℕ) (b : Board) (a : ℕ) (cs : List ℕ) → arrays-good k g b a cs ≡ true → (i : ℕ) → i < k
+pub arrays-split : (k g : ℕ) (b : Board) (a : ℕ) (cs : List ℕ) → arrays-good k g b a cs ≡ true → (i : ℕ) → i < k
     → array-good b (eqb (g + i) (a / b .wide)) (array-of b cs i) ≡ true
 unfolding arrays-good
 arrays-split zero g b a cs h i l = let none : ⊥ = omega arith in absurd none
@@ -317,7 +317,7 @@ arrays-accepted b a cs t = arrays-joined (grid-rows b) 0 b a cs one
 
 -- ROWS AND WORDS
 
-each-word : (n : ℕ) (xs : List (List ℕ)) → each-long n xs ≡ true → (i : ℕ) → i < length xs → Word n (getD xs i [])
+pub each-word : (n : ℕ) (xs : List (List ℕ)) → each-long n xs ≡ true → (i : ℕ) → i < length xs → Word n (getD xs i [])
 unfolding each-long
 each-word n [] h i l = let none : ⊥ = omega arith in absurd none
 each-word n (x ∷ xs) h zero l =
@@ -329,7 +329,7 @@ each-word n (x ∷ xs) h zero l =
 each-word n (x ∷ xs) h (suc i) l =
     each-word n xs (and-right (eqb (length x) n && bytes-good x) (each-long n xs) h) i (omega arith)
 
-words-long : (n : ℕ) (xs : List (List ℕ)) → ((i : ℕ) → i < length xs → Word n (getD xs i [])) → each-long n xs ≡ true
+pub words-long : (n : ℕ) (xs : List (List ℕ)) → ((i : ℕ) → i < length xs → Word n (getD xs i [])) → each-long n xs ≡ true
 unfolding each-long
 words-long n [] h = refl
 words-long n (x ∷ xs) h =

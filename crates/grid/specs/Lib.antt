@@ -2,4 +2,5 @@ pub mod Arrays
 pub mod Code
 pub mod Grid
 pub mod Hiding
+pub mod Joining
 pub mod Width

@@ -7,3 +7,9 @@ pub mod Reading
 pub mod Counting
 pub mod Lengths
 pub mod Checks
+pub mod Parts
+pub mod Accepted
+pub mod Opening
+pub mod Dealing
+pub mod Promise
+pub mod Document03

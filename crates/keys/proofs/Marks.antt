@@ -1,17 +1,17 @@
 -- Marks packed into bytes: what is packed is read back, mark by mark, and what is read is packed into the same bytes again when the
 -- spare bits are zero. Assumes nothing.
-use mathlib.Core.Path.{_≡_, refl, sym, ap, _∙_, subst}
-use mathlib.Core.Bool.{Bool, true, false, _&&_, not, cond, false≢true}
-use mathlib.Core.List.{List, [], _∷_, _++_, append-assoc}
+use mathlib.Core.Path.{_≡_, refl, sym, ap, _∙_}
+use mathlib.Core.Bool.{Bool, true, false, not, cond}
+use mathlib.Core.List.{List, [], _∷_, _++_}
 use Prim.Native.Nat.{ℕ, zero, suc, _+_, _*_, _-_, _/_, _%_, _^_, _≤_, _<_}
 use native.Mathlib.Omega.{arith}
 use lib.Dec.{ltb, eqb}
-use lib.ListN.{length, getD, take, drop, length-append, length-drop, List·getD-eq-default}
+use lib.ListN.{length, getD, take, drop, List·getD-eq-default}
 use lib.Pow.{shr-shr}
 use lib.Seq.{drop-cons, getD-drop, drop-drop, take-all}
 use borrow.Author.Tests.{ltb-true, ltb-false, eqb-true, eqb-false, eq-eqb, ne-eqb, not-true}
 use Rattle.xor.specs.Xor.{bytes-good}
-use Rattle.xor.proofs.Laws.{and-left, and-right, and-both, good-head, good-tail, good-cons}
+use Rattle.xor.proofs.Laws.{and-left, and-right, good-head, good-tail, good-cons}
 use Rattle.grid.specs.Grid.{bit, marks-of}
 use Rattle.keys.specs.Keys.{packed-from, packed, count-marks, spare-from, marks-in, byte-of, packed-marks}
 
@@ -206,14 +206,14 @@ good-packed (suc l) ms = good-cons (byte-of 8 0 ms) (packed-marks l (drop 8 ms))
 -- COUNTED MARKS
 
 -- how many are set
-unfoldable pub marked : List Bool → ℕ
-marked [] = 0
-marked (m ∷ ms) = cond m 1 0 + marked ms
+unfoldable pub marks-set : List Bool → ℕ
+marks-set [] = 0
+marks-set (m ∷ ms) = cond m 1 0 + marks-set ms
 
-pub count-marked : (k j : ℕ) (ps : List ℕ) → count-marks k j ps ≡ marked (marks-in k j ps)
-unfolding count-marks marks-in marked
-count-marked zero j ps = refl
-count-marked (suc k) j ps = ap (λ (n : ℕ). cond (bit (getD ps (j / 8) 0) (j % 8)) 1 0 + n) (count-marked k (suc j) ps)
+pub count-marks-is : (k j : ℕ) (ps : List ℕ) → count-marks k j ps ≡ marks-set (marks-in k j ps)
+unfolding count-marks marks-in marks-set
+count-marks-is zero j ps = refl
+count-marks-is (suc k) j ps = ap (λ (n : ℕ). cond (bit (getD ps (j / 8) 0) (j % 8)) 1 0 + n) (count-marks-is k (suc j) ps)
 
 -- A PLAYER'S MARKS of an array
 
