@@ -47,6 +47,19 @@ spare-is (suc k) j ps = go (bit (getD ps (j / 8) 0) (j % 8)) (spare-is k (suc j)
     go true e = sym (ne-eqb (1 + count-marks k (suc j) ps) 0 (λ q. omega arith))
     go false e = rw zero-add e
 
+-- at most all are marked
+pub count-most : (k j : ℕ) (ps : List ℕ) → count-marks k j ps ≤ k
+unfolding count-marks
+count-most zero j ps = omega arith
+count-most (suc k) j ps = go (bit (getD ps (j / 8) 0) (j % 8)) (count-most k (suc j) ps)
+  where
+    go : (t : Bool) → count-marks k (suc j) ps ≤ k → cond t 1 0 + count-marks k (suc j) ps ≤ suc k
+    go true h = omega arith
+    go false h = omega arith
+
+pub count-short : {r : ℕ} (ps : List ℕ) (column : ℕ) → r ≡ count-marks (column - 0) 0 ps → r ≤ column
+count-short ps column e = omega (arith, count-most (column - 0) 0 ps)
+
 -- a grid row by its two counts
 pub row-unfit : (b : Board) (ps : List ℕ) (columns-now marks : ℕ) → columns-now ≡ columns b → marks ≡ count-marks (columns-now - 0) 0 ps
     → (marks ≡ columns-now / 2 → ⊥) → false ≡ row-fits b ps

@@ -7,7 +7,7 @@ use lib.Dec.{ltb}
 use mathlib.Core.Bool.{Bool, true, false, cond}
 use mathlib.Core.List.{List, [], _∷_}
 use lib.ListN.{length, length-append}
-use native.Mathlib.Nat.{mul-le-mul}
+use native.Mathlib.Nat.{mul-le-mul, mul-le-mul-right, le-trans}
 use Rattle.grid.specs.Grid.{Board, board-refusal, columns, grid-rows, row-long}
 use Rattle.grid.specs.Code.{board-of}
 use Rattle.grid.proofs.Facts.{board-in, columns-pos, columns-twice, columns-most}
@@ -87,6 +87,9 @@ module _ (b : Board) (accepted : board-refusal b ≡ 0) where
 
   pub rows-in : grid-rows b * stride b ≤ 132096
   rows-in = mul-le-mul (board-in b accepted .rows-most) stride-in
+
+  pub row-in : (g : ℕ) → g ≤ grid-rows b → g * stride b ≤ 132096
+  row-in g h = le-trans (mul-le-mul-right (stride b) h) rows-in
 
   pub words-in : columns b * row-long b ≤ 131072
   unfolding row-long

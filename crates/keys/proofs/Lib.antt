@@ -13,3 +13,4 @@ pub mod Opening
 pub mod Dealing
 pub mod Promise
 pub mod Document03
+pub mod Holding

@@ -5,10 +5,10 @@ use grid::board::Board;
 ghost use mathlib.Core.Path.{_≡_};
 ghost use Prim.Native.Nat.{_+_, _*_, _-_, _≤_};
 ghost use lib.ListN.{length, take, drop};
-ghost use Rattle.grid.specs.Grid.{board-refusal, grid-rows};
+ghost use Rattle.grid.specs.Grid.{board-refusal, columns, grid-rows};
 ghost use Rattle.grid.specs.Code.{board-of};
 ghost use Rattle.keys.specs.Keys.{mark-bytes, stride, count-marks, marks-good};
-ghost use Rattle.keys.specs.Held.{marked, row-fits};
+ghost use Rattle.keys.specs.Held.{marked, row-fits, seed-from};
 
 // Bytes of a seed.
 pub const SEED_BYTES: usize = 32;
@@ -103,4 +103,12 @@ pub fn marks_good(body: &[u8], board: Board) -> bool
         left -= 1;
     }
     true
+}
+
+// Where a marked column's seed begins in its grid row: behind the marks, and a seed for each marked column before it.
+pub fn seed_from(part: &[u8], board: Board, column: usize) -> usize
+    requires { ⌜ (board-refusal (board-of board) ≡ 0) × (column ≤ columns (board-of board)) ⌝ }
+    ensures { λ r. ⌜ r ≡ seed-from (board-of board) (now (part .entry)) column ⌝ }
+{
+    mark_bytes(board) + SEED_BYTES * marks_between(part, 0, column)
 }

@@ -3,5 +3,6 @@
 // The lent keys are bytes of every kind: neither `check_key` nor `held_seed` requires anything of them.
 pub mod check;
 pub mod grid_row;
+pub mod held;
 pub mod length;
 pub mod reader;
