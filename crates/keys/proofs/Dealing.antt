@@ -7,14 +7,14 @@ use Prim.Native.Nat.{ℕ, zero, suc, _+_, _*_, _-_, _/_, _%_, _≤_, _<_}
 use native.Mathlib.Nat.{mul-le-mul-right}
 use native.Mathlib.Omega.{arith}
 use lib.Dec.{leb, eqb}
-use lib.ListN.{length, getD, take, drop, length-drop}
-use lib.Seq.{drop-drop, drop-cons, length-take-le, take-add, take-all}
+use lib.ListN.{length, getD, take, drop, length-take, length-drop}
+use lib.Seq.{drop-drop, take-at, drop-at, drop-cons, length-take-le, take-add, take-all}
 use borrow.Author.Tests.{eqb-true, leb-false, not-false}
 use Rattle.xor.specs.Xor.{xors, zeros, bytes-good}
 use Rattle.xor.proofs.Laws.{Word, and-left, and-right}
 use Rattle.grid.specs.Grid.{Board, columns, grid-rows, row-long, board-refusal, bit, column, row-of, all-words, cell, share-from, share, arrays-good, each-long, marks-of, held-rows}
 use Rattle.grid.specs.Arrays.{marked, Half-is-marked}
-use Rattle.grid.proofs.Facts.{Board-in, board-in, Facts, arrays-in, arrays-split, array-of, array-long, rows-in, words-in, grid-row-in, words-long}
+use Rattle.grid.proofs.Facts.{board-accepted, Board-in, board-in, Facts, arrays-in, arrays-split, array-of, array-long, rows-in, words-in, grid-row-in, words-long}
 use Rattle.grid.proofs.Arrays.{half-is-marked}
 use Rattle.grid.proofs.LastWord.{all-words-long, all-words-are}
 use Rattle.keys.specs.Keys.{Lent, dealing, deal-refusal, mark-bytes, held-seeds, body-from, glued, rows-from, words-from, key, rows-written, key-written, parts-share, share-by-parts}
@@ -119,8 +119,7 @@ half-marked b l i t h g inside =
     (marks-marked i (array-of b (l .arrays) g)
     ∙ half-is-marked b (eqb (0 + g) (l .point / b .wide)) (array-of b (l .arrays) g)
     (record {
-      players-least = t .board .players-least;
-      players-most = omega (arith, t .board .players-most);
+      board = board-accepted b (t .board);
       long = array-long b (l .arrays) (t .arrays-long) g inside;
       good = arrays-split (grid-rows b) 0 b (l .point) (l .arrays) (t .arrays) g inside;
     }) i h)
@@ -166,42 +165,40 @@ each-held n i (c ∷ cs) (r ∷ rs) h = go (bit c i) (each-held n i cs rs (each-
     go true ih = each-cons n r (held-rows i cs rs) (each-head n r rs h) ih
     go false ih = ih
 
--- cut at a column: in front of it stand as many held rows as marks
-module _ (i : ℕ) where
-  held-take : (m : ℕ) (cs : List ℕ) (rs : List (List ℕ)) → length cs ≡ length rs →
-      take (marks-set (take m (marks-of i cs))) (held-rows i cs rs) ≡ held-rows i (take m cs) (take m rs)
-  unfolding held-rows marks-set marks-of
-  held-take zero cs rs e = refl
-  held-take (suc m) [] rs e = refl
-  held-take (suc m) (c ∷ cs) [] e = let none : ⊥ = omega arith in absurd none
-  held-take (suc m) (c ∷ cs) (r ∷ rs) e = go (bit c i) (held-take m cs rs (omega arith))
-    where
-      go : (t : Bool) → take (marks-set (take m (marks-of i cs))) (held-rows i cs rs) ≡ held-rows i (take m cs) (take m rs) →
-          take (cond t 1 0 + marks-set (take m (marks-of i cs))) (cond t (r ∷ held-rows i cs rs) (held-rows i cs rs))
-          ≡ cond t (r ∷ held-rows i (take m cs) (take m rs)) (held-rows i (take m cs) (take m rs))
-      go true ih =
-          let more : 1 + marks-set (take m (marks-of i cs)) ≡ suc (marks-set (take m (marks-of i cs))) = omega arith in
-          rw (more, ih)
-      go false ih =
-          let same : 0 + marks-set (take m (marks-of i cs)) ≡ marks-set (take m (marks-of i cs)) = omega arith in
-          rw (same, ih)
+-- held rows of two stretches of columns
+held-cut : (i m : ℕ) (cs : List ℕ) (rs : List (List ℕ)) → length cs ≡ length rs →
+    held-rows i cs rs ≡ held-rows i (take m cs) (take m rs) ++ held-rows i (drop m cs) (drop m rs)
+unfolding held-rows
+held-cut i zero cs rs e = refl
+held-cut i (suc m) [] rs e = refl
+held-cut i (suc m) (c ∷ cs) [] e = let none : ⊥ = omega arith in absurd none
+held-cut i (suc m) (c ∷ cs) (r ∷ rs) e = go (bit c i) (held-cut i m cs rs (omega arith))
+  where
+    front : List (List ℕ)
+    front = held-rows i (take m cs) (take m rs)
 
-  held-drop : (m : ℕ) (cs : List ℕ) (rs : List (List ℕ)) → length cs ≡ length rs →
-      drop (marks-set (take m (marks-of i cs))) (held-rows i cs rs) ≡ held-rows i (drop m cs) (drop m rs)
-  unfolding held-rows marks-set marks-of
-  held-drop zero cs rs e = refl
-  held-drop (suc m) [] rs e = refl
-  held-drop (suc m) (c ∷ cs) [] e = let none : ⊥ = omega arith in absurd none
-  held-drop (suc m) (c ∷ cs) (r ∷ rs) e = go (bit c i) (held-drop m cs rs (omega arith))
-    where
-      go : (t : Bool) → drop (marks-set (take m (marks-of i cs))) (held-rows i cs rs) ≡ held-rows i (drop m cs) (drop m rs) →
-          drop (cond t 1 0 + marks-set (take m (marks-of i cs))) (cond t (r ∷ held-rows i cs rs) (held-rows i cs rs)) ≡ held-rows i (drop m cs) (drop m rs)
-      go true ih =
-          let more : 1 + marks-set (take m (marks-of i cs)) ≡ suc (marks-set (take m (marks-of i cs))) = omega arith in
-          rw more ih
-      go false ih =
-          let same : 0 + marks-set (take m (marks-of i cs)) ≡ marks-set (take m (marks-of i cs)) = omega arith in
-          rw same ih
+    back : List (List ℕ)
+    back = held-rows i (drop m cs) (drop m rs)
+
+    go : (t : Bool) → held-rows i cs rs ≡ front ++ back → cond t (r ∷ held-rows i cs rs) (held-rows i cs rs) ≡ cond t (r ∷ front) front ++ back
+    go true ih = rw ih
+    go false ih = ih
+
+-- cut at a column: in front of it stand as many held rows as marks
+module _ (i m : ℕ) (cs : List ℕ) (rs : List (List ℕ)) (same : length cs ≡ length rs) where
+  held-front : length (held-rows i (take m cs) (take m rs)) ≡ marks-set (take m (marks-of i cs))
+  held-front =
+      length-held i (take m cs) (take m rs) (rw (length-take m cs, length-take m rs, same)) ∙ ap marks-set (take-marks m i cs)
+
+  held-take : take (marks-set (take m (marks-of i cs))) (held-rows i cs rs) ≡ held-rows i (take m cs) (take m rs)
+  held-take =
+      rw (held-cut i m cs rs same)
+      (take-at (held-rows i (take m cs) (take m rs)) (held-rows i (drop m cs) (drop m rs)) (marks-set (take m (marks-of i cs))) held-front)
+
+  held-drop : drop (marks-set (take m (marks-of i cs))) (held-rows i cs rs) ≡ held-rows i (drop m cs) (drop m rs)
+  held-drop =
+      rw (held-cut i m cs rs same)
+      (drop-at (held-rows i (take m cs) (take m rs)) (held-rows i (drop m cs) (drop m rs)) (marks-set (take m (marks-of i cs))) held-front)
 
 -- the held seeds are the seeds of marked columns, glued
 held-glued : (k i : ℕ) (cs ss : List ℕ) → length cs ≡ k → held-seeds i cs ss ≡ glued (held-rows i cs (words-from k 32 ss))

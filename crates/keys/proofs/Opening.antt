@@ -80,38 +80,52 @@ table-at b f q a board rule good h =
 
 -- THE PARTS FROM A GRID ROW ON are those of the part that begins there
 
-pub marks-from-row : (g k : ℕ) (b : Board) (bs : List ℕ) → drop (g * columns b) (marks-of-rows (g + k) b bs) ≡ marks-of-rows k b (row-part b bs g)
-unfolding row-part marks-of-rows
-marks-from-row zero k b bs =
-    let none : zero * columns b ≡ zero = omega arith in
-    let nowhere : zero * stride b ≡ zero = omega arith in
+-- what is read at each of k places, a stride apart
+unfoldable by-rows {ℓ} : {A : Type ℓ} → (left step : ℕ) → (read : List ℕ → List A) → List ℕ → List A
+by-rows zero s F bs = []
+by-rows (suc k) s F bs = F bs ++ by-rows k s F (drop s bs)
+
+-- where n things are read at each place, g times n of them are those of the first g places
+by-rows-from {ℓ} : {A : Type ℓ} (g k s n : ℕ) (F : List ℕ → List A) (bs : List ℕ) → ((xs : List ℕ) → length (F xs) ≡ n) →
+    drop (g * n) (by-rows (g + k) s F bs) ≡ by-rows k s F (drop (g * s) bs)
+unfolding by-rows
+by-rows-from zero k s n F bs e =
+    let none : zero * n ≡ zero = omega arith in
+    let nowhere : zero * s ≡ zero = omega arith in
     let all : zero + k ≡ k = omega arith in
     rw (none, nowhere, all)
-marks-from-row (suc g) k b bs =
+by-rows-from (suc g) k s n F bs e =
     let more : suc g + k ≡ suc (g + k) = omega arith in
-    let next : suc g * columns b ≡ columns b + g * columns b = omega arith in
-    let further : suc g * stride b ≡ stride b + g * stride b = omega arith in
-    let first = marks-in (columns b) 0 bs in
-    let others = marks-of-rows (g + k) b (drop (stride b) bs) in
-    rw (more, next, further, ← drop-drop (g * columns b) (columns b) (first ++ others), drop-at first others (columns b) (length-marks (columns b) 0 bs))
-    (marks-from-row g k b (drop (stride b) bs) ∙ ap (λ (l : List ℕ). marks-of-rows k b l) (drop-drop (g * stride b) (stride b) bs))
+    let next : suc g * n ≡ n + g * n = omega arith in
+    let further : suc g * s ≡ s + g * s = omega arith in
+    let others = by-rows (g + k) s F (drop s bs) in
+    rw (more, next, further, ← drop-drop (g * n) n (F bs ++ others), drop-at (F bs) others n (e bs), ← drop-drop (g * s) s bs)
+    (by-rows-from g k s n F (drop s bs) e)
+
+marks-by-rows : (k : ℕ) (b : Board) (bs : List ℕ) → marks-of-rows k b bs ≡ by-rows k (stride b) (marks-in (columns b) 0) bs
+unfolding marks-of-rows by-rows
+marks-by-rows zero b bs = refl
+marks-by-rows (suc k) b bs = ap (λ (ms : List Bool). marks-in (columns b) 0 bs ++ ms) (marks-by-rows k b (drop (stride b) bs))
+
+abbrev row-seeds : Board → List ℕ → List (List ℕ)
+row-seeds b bs = words-from (columns b / 2) 32 (drop (mark-bytes b) bs)
+
+seeds-by-rows : (k : ℕ) (b : Board) (bs : List ℕ) → seeds-of-rows k b bs ≡ by-rows k (stride b) (row-seeds b) bs
+unfolding seeds-of-rows by-rows
+seeds-by-rows zero b bs = refl
+seeds-by-rows (suc k) b bs = ap (λ (ss : List (List ℕ)). row-seeds b bs ++ ss) (seeds-by-rows k b (drop (stride b) bs))
+
+pub marks-from-row : (g k : ℕ) (b : Board) (bs : List ℕ) → drop (g * columns b) (marks-of-rows (g + k) b bs) ≡ marks-of-rows k b (row-part b bs g)
+unfolding row-part
+marks-from-row g k b bs =
+    rw (marks-by-rows (g + k) b bs, marks-by-rows k b (drop (g * stride b) bs))
+    (by-rows-from g k (stride b) (columns b) (marks-in (columns b) 0) bs (length-marks (columns b) 0))
 
 pub seeds-from-row : (g k : ℕ) (b : Board) (bs : List ℕ) → drop (g * (columns b / 2)) (seeds-of-rows (g + k) b bs) ≡ seeds-of-rows k b (row-part b bs g)
-unfolding row-part seeds-of-rows
-seeds-from-row zero k b bs =
-    let none : zero * (columns b / 2) ≡ zero = omega arith in
-    let nowhere : zero * stride b ≡ zero = omega arith in
-    let all : zero + k ≡ k = omega arith in
-    rw (none, nowhere, all)
-seeds-from-row (suc g) k b bs =
-    let half = columns b / 2 in
-    let more : suc g + k ≡ suc (g + k) = omega arith in
-    let next : suc g * half ≡ half + g * half = omega arith in
-    let further : suc g * stride b ≡ stride b + g * stride b = omega arith in
-    let first = words-from half 32 (drop (mark-bytes b) bs) in
-    let others = seeds-of-rows (g + k) b (drop (stride b) bs) in
-    rw (more, next, further, ← drop-drop (g * half) half (first ++ others), drop-at first others half (length-words half 32 (drop (mark-bytes b) bs)))
-    (seeds-from-row g k b (drop (stride b) bs) ∙ ap (λ (l : List ℕ). seeds-of-rows k b l) (drop-drop (g * stride b) (stride b) bs))
+unfolding row-part
+seeds-from-row g k b bs =
+    rw (seeds-by-rows (g + k) b bs, seeds-by-rows k b (drop (g * stride b) bs))
+    (by-rows-from g k (stride b) (columns b / 2) (row-seeds b) bs (λ xs. length-words (columns b / 2) 32 (drop (mark-bytes b) xs)))
 
 -- each grid row's test
 pub tests-at : (k g : ℕ) (b : Board) (bs : List ℕ) → g < k → marks-good k b bs ≡ true → count-marks (columns b) 0 (row-part b bs g) ≡ columns b / 2
