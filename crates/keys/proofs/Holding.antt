@@ -78,7 +78,7 @@ count-split (suc k) m j ps =
     ∙ sym (add-assoc (cond (bit (getD ps (j / 8) 0) (j % 8)) 1 0) (count-marks k (suc j) ps) (count-marks m (j + suc k) ps)))
 
 -- a marked column leaves room for its own seed
-count-before : (ps : List ℕ) (j n : ℕ) → j < n → marked ps j ≡ true → suc (count-marks j 0 ps) ≤ count-marks n 0 ps
+pub count-before : (ps : List ℕ) (j n : ℕ) → j < n → marked ps j ≡ true → suc (count-marks j 0 ps) ≤ count-marks n 0 ps
 unfolding count-marks marked
 count-before ps j n h m =
     let rest = n - suc j in
