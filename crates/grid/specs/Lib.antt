@@ -1,3 +1,4 @@
+pub mod Arrays
 pub mod Grid
 pub mod Hiding
 pub mod Width
