@@ -1,13 +1,9 @@
-<<<<<<< HEAD
 pub mod Arrays
-pub mod Columns
-pub mod Facts
-pub mod Pigeonhole
-=======
 pub mod Cells
+pub mod Columns
 pub mod Facts
 pub mod Joining
 pub mod LastWord
 pub mod Marks
+pub mod Pigeonhole
 pub mod Sums
->>>>>>> main
