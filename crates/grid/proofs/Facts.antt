@@ -255,7 +255,7 @@ first-array : (b : Board) (cs : List ℕ) → take (columns b) cs ≡ array-of b
 unfolding array-of
 first-array b cs = let e : 0 * columns b ≡ 0 = omega arith in rw e
 
-arrays-split : (k g : ℕ) (b : Board) (a : ℕ) (cs : List ℕ) → arrays-good k g b a cs ≡ true → (i : ℕ) → i < k
+pub arrays-split : (k g : ℕ) (b : Board) (a : ℕ) (cs : List ℕ) → arrays-good k g b a cs ≡ true → (i : ℕ) → i < k
     → array-good b (eqb (g + i) (a / b .wide)) (array-of b cs i) ≡ true
 unfolding arrays-good
 arrays-split zero g b a cs h i l = let none : ⊥ = omega arith in absurd none

@@ -2,3 +2,6 @@
 pub mod Lists
 pub mod Numbers
 pub mod Marks
+pub mod Parts
+pub mod Accepted
+pub mod Opening

@@ -206,14 +206,14 @@ good-packed (suc l) ms = good-cons (byte-of 8 0 ms) (packed-marks l (drop 8 ms))
 -- COUNTED MARKS
 
 -- how many are set
-unfoldable pub marked : List Bool → ℕ
-marked [] = 0
-marked (m ∷ ms) = cond m 1 0 + marked ms
+unfoldable pub marks-set : List Bool → ℕ
+marks-set [] = 0
+marks-set (m ∷ ms) = cond m 1 0 + marks-set ms
 
-pub count-marked : (k j : ℕ) (ps : List ℕ) → count-marks k j ps ≡ marked (marks-in k j ps)
-unfolding count-marks marks-in marked
-count-marked zero j ps = refl
-count-marked (suc k) j ps = ap (λ (n : ℕ). cond (bit (getD ps (j / 8) 0) (j % 8)) 1 0 + n) (count-marked k (suc j) ps)
+pub count-marks-is : (k j : ℕ) (ps : List ℕ) → count-marks k j ps ≡ marks-set (marks-in k j ps)
+unfolding count-marks marks-in marks-set
+count-marks-is zero j ps = refl
+count-marks-is (suc k) j ps = ap (λ (n : ℕ). cond (bit (getD ps (j / 8) 0) (j % 8)) 1 0 + n) (count-marks-is k (suc j) ps)
 
 -- A PLAYER'S MARKS of an array
 
