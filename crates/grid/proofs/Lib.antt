@@ -12,5 +12,6 @@ pub mod Pigeonhole
 pub mod Sums
 pub mod Powers
 pub mod Sensors
+pub mod Refusing
 pub mod Table
 pub mod Widths

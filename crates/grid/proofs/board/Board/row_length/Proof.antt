@@ -3,7 +3,7 @@
 use mathlib.Core.Path.{refl}
 use native.Mathlib.Omega.{arith}
 use Rattle.grid.specs.Grid.{board, row-long}
-use Rattle.grid.proofs.Accepted.{accepted, row-most}
+use Rattle.grid.proofs.Refusing.{row-most}
 use Rattle.grid.proofs.board.Board.row_length.Statement.{statement}
 use Rattle.grid.proofs.board.Board.row_length.Tie as tie
 
