@@ -1,12 +1,12 @@
 -- The laws of writing one part behind another. Assumes nothing.
-use mathlib.Core.Path.{_≡_, refl, sym, ap, _∙_}
+use mathlib.Core.Path.{_≡_, refl, sym, ap, _∙_, subst}
 use mathlib.Core.List.{List, [], _∷_, _++_, append-assoc, append-nil}
 use Prim.Native.Nat.{ℕ, zero, suc, _+_, _-_, _<_, _≤_}
 use native.Mathlib.Omega.{arith}
 use native.Mathlib.Nat.{add-zero, zero-add, add-assoc}
 use native.Mathlib.Numerals.{add-one}
 use lib.ListN.{length, getD, take, drop, set, length-append, length-drop, take-append-drop, List·getD-append}
-use lib.Seq.{length-take-le, take-length, take-at, drop-at, drop-drop, paste, paste-zero, paste-suc, length-paste, drop-append-le, take-append-le, take-take, getD-take, set-split, append-snoc}
+use lib.Seq.{length-take-le, take-length, take-at, drop-at, drop-drop, paste, paste-zero, paste-suc, length-paste, drop-append-le, take-append-le, take-take, take-add, getD-take, set-split, append-snoc}
 use Rattle.writer.specs.Written.{written, Wrote}
 
 -- writing nothing changes nothing
@@ -34,6 +34,25 @@ take-written at k new old h within =
     let long : length (take at old) ≡ at = length-take-le at old within in
     rw append-assoc (take-append-le k (take at old) (new ++ drop (at + length new) old) (omega arith) ∙ take-take k at old h)
 
+-- a part of a string is the end of its front
+front-end : (from count : ℕ) (xs : List ℕ) → from ≤ length xs → drop from (take (from + count) xs) ≡ take count (drop from xs)
+front-end from count xs h =
+    rw (take-add from count xs) (drop-at (take from xs) (take count (drop from xs)) from (length-take-le from xs h))
+
+-- what stands before the place is as it was
+pub part-kept : (from count at : ℕ) (new old : List ℕ) → from + count ≤ at → at + length new ≤ length old →
+    take count (drop from (written at new old)) ≡ take count (drop from old)
+part-kept from count at new old h room =
+    let long = length-written at new old room in
+    sym (front-end from count (written at new old) (omega arith)) ∙ ap (drop from) (take-written at (from + count) new old h (omega arith)) ∙ front-end from count old (omega arith)
+
+-- what is written stands there
+pub part-written : (at : ℕ) (new old : List ℕ) → at ≤ length old → take (length new) (drop at (written at new old)) ≡ new
+unfolding written
+part-written at new old h =
+    let rest = drop (at + length new) old in
+    rw (append-assoc (take at old) new rest, drop-at (take at old) (new ++ rest) at (length-take-le at old h)) (take-at new rest (length new) refl)
+
 -- WRITING ONE PART BEHIND ANOTHER is writing both
 pub written-then : (at : ℕ) (first second old : List ℕ) → at + length first + length second ≤ length old →
     written (at + length first) second (written at first old) ≡ written at (first ++ second) old
@@ -54,6 +73,13 @@ wrote-then {at} {middle} {next} first second {old} {between} {now} h p q =
       next-is = omega (arith, p .next-is, q .next-is, length-append first second);
       now-is = q .now-is ∙ rw (p .next-is, p .now-is) (written-then at first second old h);
     }
+
+-- the same, where the two parts are one string cut in two
+pub wrote-more : {at middle next : ℕ} (first second both : List ℕ) {old between now : List ℕ} → both ≡ first ++ second → at + length both ≤ length old →
+    Wrote at first middle old between → Wrote middle second next between now → Wrote at both next old now
+wrote-more {at} {middle} {next} first second both {old} {between} {now} e h p q =
+    let long : length both ≡ length first + length second = ap length e ∙ length-append first second in
+    subst (λ (l : List ℕ). Wrote at l next old now) (sym e) (wrote-then first second (omega arith) p q)
 
 pub wrote-nothing : (at : ℕ) (old : List ℕ) → Wrote at [] at old old
 wrote-nothing at old = record { next-is = sym (add-zero at); now-is = sym (written-nothing at old) }

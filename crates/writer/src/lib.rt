@@ -1,10 +1,22 @@
 // Writing into a lent output: a part, a byte, or a copy of bytes that stand there already, at a place. Each writer answers the place behind
 // what it wrote, so that the next begins there, and leaves every other byte as it was. Their meaning is `Wrote` of specs/Written.antt.
 // Assumes nothing.
+ghost use mathlib.Core.Path.{_≡_};
 ghost use mathlib.Core.List.{[], _∷_};
 ghost use Prim.Native.Nat.{_+_, _≤_, _<_};
-ghost use lib.ListN.{length, take, drop};
+ghost use lib.ListN.{length, take, drop, replicate};
 ghost use Rattle.writer.specs.Written.{Wrote};
+
+// Makes every byte zero.
+pub fn clear(out: &mut [u8])
+    ensures { λ r. ⌜ now (out .exit) ≡ replicate (length (now (out .entry))) 0 ⌝ }
+{
+    let mut place: usize = 0;
+    while place < out.len() {
+        out[place] = 0;
+        place += 1;
+    }
+}
 
 // Writes `part` from place `at` on.
 pub fn put(out: &mut [u8], at: usize, part: &[u8]) -> usize

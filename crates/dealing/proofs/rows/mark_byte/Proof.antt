@@ -42,6 +42,7 @@ abbrev μ-loop : tie.MeasureT-loop
 μ-loop array from player byte₀ place₀ byte place = place
 
 loop-holds : tie.Need-loop-holds Inv-loop μ-loop
+unfolding packed-from
 loop-holds c = (omega arith, refl)
 
 sub-place : tie.Need-sub-place Inv-loop μ-loop
