@@ -4,10 +4,12 @@ ghost use mathlib.Core.Bool.{cond};
 ghost use mathlib.Core.List.{[]};
 ghost use Prim.Native.Nat.{_+_, _*_, _/_, _≤_, _<_};
 ghost use lib.ListN.{length, getD, drop};
-ghost use Rattle.grid.specs.Grid.{bit, columns};
-ghost use Rattle.keys.specs.Keys.{packed-from, packed, held-seeds, body-from, mark-bytes};
+ghost use Rattle.grid.specs.Grid.{bit, board-refusal, columns, grid-rows};
+ghost use Rattle.grid.specs.Code.{board-of};
+ghost use Rattle.keys.specs.Keys.{packed-from, packed, held-seeds, body-from};
 ghost use Rattle.dealing.specs.Rows.{mark-digit, row-bytes};
 ghost use Rattle.writer.specs.Written.{Wrote};
+use grid::board::Board;
 use writer::put;
 use writer::put_byte;
 
@@ -102,4 +104,31 @@ fn put_row(
 {
     let next = put_marks(out, at, player, mark_bytes, array);
     put_held(out, next, player, array, seeds)
+}
+
+// Writes all grid rows of the player's key.
+pub fn put_rows(
+    out: &mut [u8],
+    at: usize,
+    board: Board,
+    player: u32,
+    arrays: &[u8],
+    seeds: &[u8],
+) -> usize
+    requires { ⌜ (board-refusal (board-of board) ≡ 0) × (player < 8) × (length (now arrays) ≡ grid-rows (board-of board) * columns (board-of board)) × (length (now seeds) ≡ 32 * (grid-rows (board-of board) * columns (board-of board))) × (at + length (body-from (grid-rows (board-of board)) (board-of board) player (now arrays) (now seeds)) ≤ length (now out)) ⌝ }
+    ensures { λ r. ⌜ Wrote at (body-from (grid-rows (board-of board)) (board-of board) player (now (arrays .entry)) (now (seeds .entry))) r (now (out .entry)) (now (out .exit)) ⌝ }
+{
+    let columns = board.columns();
+    let grid_rows = board.grid_rows();
+    let mark_bytes = (columns + 7) / 8;
+    let mut next = at;
+    let mut grid_row: usize = 0;
+    while grid_row < grid_rows {
+        let from = grid_row * columns;
+        let end = from + columns;
+        let seed = 32 * from;
+        next = put_row(out, next, player, mark_bytes, &arrays[from..end], &seeds[seed..]);
+        grid_row += 1;
+    }
+    next
 }

@@ -18,14 +18,14 @@ use Rattle.dealing.proofs.rows.put_marks.Reads as put-marks-reads
 
 put-marks-requires : tie.Need-put-marks-requires
 put-marks-requires c κs =
-    let s = c .before .before in
+    let s = c .before .before .before .before in
     let a = s .args in
     let long = row-parts (a .mark-bytes) (a .player) (now (a .array)) (now (a .seeds)) in
     (omega arith, omega arith, omega (arith, s .pre .3))
 
 put-held-requires : tie.Need-put-held-requires
 put-held-requires c κs =
-    let s = c .before .before .before .before .before .before in
+    let s = c .before .before .before .before .before .before .before .before in
     let a = s .args in
     let p = c .before .before .before .put-marks in
     let long = row-parts (a .mark-bytes) (a .player) (now (a .array)) (now (a .seeds)) in
@@ -37,7 +37,7 @@ same-length c = search needs
 returns : tie.Need-returns
 unfolding row-bytes
 returns c =
-    let s = c .before .before .before .before .before .before .before .before .before in
+    let s = c .before .before .before .before .before .before .before .before .before .before .before in
     let a = s .args in
     let long = row-parts (a .mark-bytes) (a .player) (now (a .array)) (now (a .seeds)) in
     wrote-then (packed (a .mark-bytes) (a .player) (now (a .array))) (held-seeds (a .player) (now (a .array)) (now (a .seeds)))
