@@ -1,92 +1,90 @@
+-- `dealing::rows::put_rows` meets its contract. The loop's invariant: the grid rows before this one are written. Assumes nothing.
+use mathlib.Core.Path.{_≡_, refl, sym, ap, _∙_, subst}
+use mathlib.Core.List.{List}
+use Prim.Native.Nat.{ℕ, _+_, _*_, _-_, _≤_, _<_}
+use native.Mathlib.Omega.{arith}
+use native.Mathlib.Nat.{mul-le-mul-right}
+use lib.ListN.{length, take, drop}
+use denote.Ref.{now}
+use Rattle.grid.specs.Grid.{columns, grid-rows}
+use Rattle.grid.specs.Code.{board-of}
+use Rattle.keys.specs.Keys.{body-from, mark-bytes}
+use Rattle.writer.specs.Written.{Wrote}
+use Rattle.writer.proofs.Laws.{wrote-nothing}
+use borrow.Author.Needs.{needs}
+use Rattle.dealing.specs.Rows.{row-bytes}
+use Rattle.dealing.proofs.RowBytes.{row-at, body-within, rows-turn}
 use Rattle.dealing.proofs.rows.put_rows.Statement.{statement}
 use Rattle.dealing.proofs.rows.put_rows.Tie as tie
 use Rattle.dealing.proofs.rows.put_rows.Reads as reads
 use Rattle.dealing.proofs.rows.put_rows.Lts as lts
+use Rattle.dealing.proofs.rows.mark_bytes.Reads as mark-bytes-reads
 use Rattle.dealing.proofs.rows.put_row.Reads as put-row-reads
 use Rattle.grid.proofs.board.Board.columns.Reads as columns-reads
 use Rattle.grid.proofs.board.Board.grid_rows.Reads as grid-rows-reads
 
 abbrev Inv-loop : tie.InvT-loop
-Inv-loop out₀ at player arrays seeds columns grid-rows mark-bytes next₀ grid-row₀ out next grid-row =
-    ?
+Inv-loop out₀ at board player arrays seeds columns grid-rows next₀ grid-row₀ out next grid-row =
+    (grid-row ≤ grid-rows) × (length out ≡ length out₀) × Wrote at (body-from grid-row (board-of board) player arrays seeds) next out₀ out
 
 abbrev μ-loop : tie.MeasureT-loop
-μ-loop out₀ at player arrays seeds columns grid-rows mark-bytes next₀ grid-row₀ out next grid-row =
-    ?
+μ-loop out₀ at board player arrays seeds columns grid-rows next₀ grid-row₀ out next grid-row = grid-rows - grid-row
 
--- src/rows.rt:121:9
 columns-requires : tie.Need-columns-requires Inv-loop μ-loop
-columns-requires c κs = ?
+columns-requires c κs = search needs
 
--- src/rows.rt:122:9
 grid-rows-requires : tie.Need-grid-rows-requires Inv-loop μ-loop
-grid-rows-requires c κs = ?
+grid-rows-requires c κs = search needs
 
--- src/rows.rt:123:23
-add-mark-bytes : tie.Need-add-mark-bytes Inv-loop μ-loop
-add-mark-bytes c = ?
-
--- src/rows.rt:126:5
 loop-holds : tie.Need-loop-holds Inv-loop μ-loop
-loop-holds c = ?
+unfolding body-from
+loop-holds c = (omega arith, refl, wrote-nothing _ _)
 
--- src/rows.rt:127:20
 mul-from : tie.Need-mul-from Inv-loop μ-loop
 mul-from c = ?
 
--- src/rows.rt:128:19
 add-end : tie.Need-add-end Inv-loop μ-loop
 add-end c = ?
 
--- src/rows.rt:129:20
 mul-seed : tie.Need-mul-seed Inv-loop μ-loop
 mul-seed c = ?
 
--- src/rows.rt:130:55
+mark-bytes-requires : tie.Need-mark-bytes-requires Inv-loop μ-loop
+mark-bytes-requires c κs = search needs
+
 sub-put-row : tie.Need-sub-put-row Inv-loop μ-loop
 sub-put-row c = ?
 
--- src/rows.rt:130:55
 part-put-row-start : tie.Need-part-put-row-start Inv-loop μ-loop
 part-put-row-start c = ?
 
--- src/rows.rt:130:55
 part-put-row-end : tie.Need-part-put-row-end Inv-loop μ-loop
 part-put-row-end c = ?
 
--- src/rows.rt:130:75
 sub-put-row-2 : tie.Need-sub-put-row-2 Inv-loop μ-loop
 sub-put-row-2 c = ?
 
--- src/rows.rt:130:75
 part-put-row-start-2 : tie.Need-part-put-row-start-2 Inv-loop μ-loop
 part-put-row-start-2 c = ?
 
--- src/rows.rt:130:75
 part-put-row-end-2 : tie.Need-part-put-row-end-2 Inv-loop μ-loop
 part-put-row-end-2 c = ?
 
--- src/rows.rt:130:9
 put-row-requires : tie.Need-put-row-requires Inv-loop μ-loop
 put-row-requires c κs = ?
 
--- src/rows.rt:131:9
 add-grid-row : tie.Need-add-grid-row Inv-loop μ-loop
 add-grid-row c = ?
 
--- src/rows.rt:126:5
 loop-less : tie.Need-loop-less Inv-loop μ-loop
-loop-less c = ?
+loop-less c = omega arith
 
--- src/rows.rt:126:5
 loop-again : tie.Need-loop-again Inv-loop μ-loop
 loop-again c = ?
 
--- src/rows.rt:110:1
 same-length : tie.Need-same-length Inv-loop μ-loop
-same-length c = ?
+same-length c = c .before .loop .inv .1
 
--- src/rows.rt:110:1
 returns : tie.Need-returns Inv-loop μ-loop
 returns c = ?
 
@@ -98,11 +96,11 @@ put-rows-spec =
     μ-loop
     columns-requires
     grid-rows-requires
-    add-mark-bytes
     loop-holds
     mul-from
     add-end
     mul-seed
+    mark-bytes-requires
     sub-put-row
     part-put-row-start
     part-put-row-end

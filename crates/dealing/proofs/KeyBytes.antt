@@ -1,0 +1,128 @@
+-- The laws of whole keys: how long their parts are, that a key is its front and the last word, and keys written one behind another. Assumes nothing.
+use mathlib.Core.Path.{_≡_, refl, sym, ap, _∙_}
+use mathlib.Core.Bool.{Bool, true, false, _&&_, cond}
+use mathlib.Core.List.{List, [], _∷_, _++_, append-assoc, append-nil}
+use Prim.Native.Nat.{ℕ, zero, suc, _+_, _*_, _-_, _/_, _^_, _≤_, _<_}
+use native.Mathlib.Omega.{arith}
+use native.Mathlib.Nat.{add-zero, mul-le-mul-right}
+use lib.Dec.{eqb}
+use lib.ListN.{length, take, drop, length-append, length-drop}
+use lib.Seq.{length-take-le, take-all}
+use Rattle.xor.proofs.Laws.{and-left, and-right}
+use Rattle.grid.specs.Grid.{Board, columns, grid-rows, row-long, bit, array-good, arrays-good, last-word, all-words}
+use Rattle.grid.specs.Arrays.{Accepted, marked, Half-is-marked}
+use Rattle.grid.proofs.Facts.{Board-in, board-in, columns-half, columns-pos}
+use Rattle.grid.proofs.Arrays.{half-is-marked}
+use Rattle.keys.specs.Keys.{Lent, header, packed, held-seeds, mark-bytes, body-from, glued, key-long, words-from, dealing, key, keys-from, stride}
+use Rattle.keys.proofs.Lists.{glue-words}
+use Rattle.keys.proofs.Numbers.{header-long}
+use Rattle.writer.specs.Written.{Wrote, written}
+use Rattle.writer.proofs.Laws.{wrote-then, wrote-more, part-kept, part-written, written-front, length-written}
+use Rattle.dealing.specs.Dealt.{lent, rule, key-front, dealt-word, dealt-keys, in-front}
+use Rattle.dealing.proofs.RowBytes.{packed-long}
+use Rattle.dealing.proofs.Lending.{Lent-in}
+use Rattle.dealing.proofs.LastWord.{dealt-word-long}
+
+-- LENGTHS
+
+-- as many seeds as marks
+held-long : (i : ℕ) (cs ss : List ℕ) → 32 * length cs ≤ length ss → length (held-seeds i cs ss) ≡ 32 * marked i cs
+unfolding held-seeds marked
+held-long i [] ss h = refl
+held-long i (c ∷ cs) ss h =
+    length-append (cond (bit c i) (take 32 ss) []) (held-seeds i cs (drop 32 ss))
+    ∙ one (bit c i) (take 32 ss) (length (held-seeds i cs (drop 32 ss))) (marked i cs) (length-take-le 32 ss (omega arith)) (held-long i cs (drop 32 ss) (rw length-drop (omega arith)))
+  where
+    one : (t : Bool) (seed : List ℕ) (rest marks : ℕ) → length seed ≡ 32 → rest ≡ 32 * marks → length (cond t seed []) + rest ≡ 32 * (cond t 1 0 + marks)
+    one true seed rest marks l r = omega arith
+    one false seed rest marks l r = omega arith
+
+-- a player marks half of the columns, so every grid row has one length
+pub body-long : (k g : ℕ) (b : Board) (i a : ℕ) (cs ss : List ℕ) → Board-in b → i < b .p → arrays-good k g b a cs ≡ true → k * columns b ≤ length cs →
+    32 * (k * columns b) ≤ length ss → length (body-from k b i cs ss) ≡ k * stride b
+unfolding body-from arrays-good stride Half-is-marked
+body-long zero g b i a cs ss f h good enough seeds = omega arith
+body-long (suc k) g b i a cs ss f h good enough seeds =
+    let J = columns b in
+    let array = take J cs in
+    let first : suc k * J ≡ J + k * J = omega arith in
+    let this = array-good b (eqb g (a / b .wide)) array in
+    let others = arrays-good k (suc g) b a (drop J cs) in
+    let array-long : length array ≡ J = length-take-le J cs (omega arith) in
+    let half = half-is-marked b (eqb g (a / b .wide)) array
+        (record { players-least = f .players-least; players-most = omega (arith, f .players-most); long = array-long; good = and-left this others good }) i h in
+    let held = held-long i array ss (omega arith) in
+    let even = columns-half b f in
+    let rest = body-long k (suc g) b i a (drop J cs) (drop (32 * J) ss) f h (and-right this others good) (rw length-drop (omega arith)) (rw length-drop (omega arith)) in
+    let marks = packed-long (mark-bytes b) i array in
+    length-append (packed (mark-bytes b) i array ++ held-seeds i array ss) (body-from k b i (drop J cs) (drop (32 * J) ss))
+    ∙ rw (length-append (packed (mark-bytes b) i array) (held-seeds i array ss), marks, held, half, rest) (lengths J (mark-bytes b) (2 ^ (b .p - 2)) k even)
+  where
+    lengths : (columns m x k : ℕ) → columns ≡ 2 * x → m + 32 * (columns / 2) + k * (m + 16 * columns) ≡ suc k * (m + 16 * columns)
+    lengths columns m x k e = let half : 32 * (columns / 2) ≡ 16 * columns = omega arith in rw half (omega arith)
+
+-- strings one behind another, and one more
+glued-snoc : (ws : List (List ℕ)) (w : List ℕ) → glued (ws ++ (w ∷ [])) ≡ glued ws ++ w
+unfolding glued
+glued-snoc [] w = append-nil w
+glued-snoc (v ∷ ws) w = ap (λ (r : List ℕ). v ++ r) (glued-snoc ws w) ∙ sym (append-assoc v (glued ws) w)
+
+-- all rows but one, and one
+one-more-row : (count long : ℕ) → 0 < count → (count - 1) * long + long ≡ count * long
+one-more-row zero long h = let none : ⊥ = omega arith in absurd none
+one-more-row (suc k) long h = let before : suc k - 1 ≡ k = omega arith in rw before (omega arith)
+
+-- THE KEYS OF AN ACCEPTED DEALING
+
+module _ (b : Board) (l : Lent) (facts : Lent-in b l) where
+  abbrev front : ℕ → List ℕ
+  front i = key-front b i (l .arrays) (l .seeds) (l .words)
+
+  abbrev word : List ℕ
+  word = dealt-word b (rule b) (l .point) (l .value) (l .seeds) (l .words)
+
+  abbrev one-key : ℕ → List ℕ
+  one-key i = key b (rule b) l i
+
+  abbrev some-keys : (k i : ℕ) → List ℕ
+  some-keys k i = keys-from k i b (rule b) l
+
+  pub word-long : length word ≡ row-long b
+  word-long =
+      dealt-word-long b (board-in b (facts .accepted)) (l .point) (l .value) (l .seeds) (l .words) (facts .point) (facts .value) (omega (arith, facts .words))
+
+  -- a key is its front and the last word
+  pub key-is : (i : ℕ) → one-key i ≡ front i ++ word
+  unfolding key key-front dealt-word dealing last-word all-words
+  key-is i =
+      let rows = header b i ++ body-from (grid-rows b) b i (l .arrays) (l .seeds) in
+      let lent-words = words-from (columns b - 1) (row-long b) (l .words) in
+      let whole : glued lent-words ≡ l .words = glue-words (columns b - 1) (row-long b) (l .words) ∙ take-all ((columns b - 1) * row-long b) (l .words) (omega (arith, facts .words)) in
+      ap (λ (r : List ℕ). rows ++ r) (glued-snoc lent-words word ∙ ap (λ (r : List ℕ). r ++ word) whole) ∙ sym (append-assoc rows (l .words) word)
+
+  pub front-long : (i : ℕ) → i < b .p → length (front i) + row-long b ≡ key-long b
+  unfolding key-front key-long stride
+  front-long i h =
+      let f = board-in b (facts .accepted) in
+      let head = header b i in
+      let rows = body-from (grid-rows b) b i (l .arrays) (l .seeds) in
+      let rows-long = body-long (grid-rows b) 0 b i (l .point) (l .arrays) (l .seeds) f h (facts .parities) (omega (arith, facts .arrays)) (omega (arith, facts .seeds)) in
+      rw (length-append (head ++ rows) (l .words), length-append head rows, header-long b i (omega (arith, f .players-most)), rows-long, facts .words)
+      (omega (arith, one-more-row (columns b) (row-long b) (columns-pos b)))
+
+  pub key-long-is : (i : ℕ) → i < b .p → length (one-key i) ≡ key-long b
+  key-long-is i h = ap length (key-is i) ∙ length-append (front i) word ∙ omega (arith, word-long, front-long i h)
+
+  pub keys-long : (k i : ℕ) → i + k ≤ b .p → length (some-keys k i) ≡ k * key-long b
+  unfolding keys-from
+  keys-long zero i h = omega arith
+  keys-long (suc k) i h =
+      length-append (one-key i) (some-keys k (suc i)) ∙ omega (arith, key-long-is i (omega arith), keys-long k (suc i) (omega arith))
+
+  keys-snoc : (k i : ℕ) → some-keys (suc k) i ≡ some-keys k i ++ one-key (i + k)
+  unfolding keys-from
+  keys-snoc zero i = rw (add-zero i) (append-nil (one-key i))
+  keys-snoc (suc k) i =
+      let next : suc i + k ≡ i + suc k = omega arith in
+      ap (λ (r : List ℕ). one-key i ++ r) (keys-snoc k (suc i))
+      ∙ rw next (sym (append-assoc (one-key i) (some-keys k (suc i)) (one-key (i + suc k))))
