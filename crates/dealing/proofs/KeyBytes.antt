@@ -17,7 +17,7 @@ use Rattle.keys.specs.Keys.{Lent, header, packed, held-seeds, mark-bytes, body-
 use Rattle.keys.proofs.Lists.{glue-words}
 use Rattle.keys.proofs.Numbers.{header-long}
 use Rattle.writer.specs.Written.{Wrote, written}
-use Rattle.writer.proofs.Laws.{wrote-then, wrote-more, part-kept, part-written, written-front, length-written}
+use Rattle.writer.proofs.Laws.{wrote-then, wrote-more, wrote-length, part-kept, part-written, written-front, length-written}
 use Rattle.dealing.specs.Dealt.{lent, rule, key-front, dealt-word, dealt-keys, in-front}
 use Rattle.dealing.proofs.RowBytes.{packed-long}
 use Rattle.dealing.proofs.Lending.{Lent-in}
@@ -72,7 +72,31 @@ one-more-row : (count long : ℕ) → 0 < count → (count - 1) * long + long �
 one-more-row zero long h = let none : ⊥ = omega arith in absurd none
 one-more-row (suc k) long h = let before : suc k - 1 ≡ k = omega arith in rw before (omega arith)
 
+-- THE FRONT OF A KEY
+
+pub front-parts : (b : Board) (i : ℕ) (cs ss ws : List ℕ) →
+    length (key-front b i cs ss ws) ≡ length (header b i) + length (body-from (grid-rows b) b i cs ss) + length ws
+unfolding key-front
+front-parts b i cs ss ws = simp length-append
+
+-- written part by part
+pub front-wrote : {at one two three : ℕ} (b : Board) (i : ℕ) (cs ss ws : List ℕ) {old headed bodied now : List ℕ} →
+    at + length (key-front b i cs ss ws) ≤ length old → Wrote at (header b i) one old headed → Wrote one (body-from (grid-rows b) b i cs ss) two headed bodied →
+    Wrote two ws three bodied now → Wrote at (key-front b i cs ss ws) three old now
+unfolding key-front
+front-wrote b i cs ss ws room p q r =
+    let head = header b i in
+    let body = body-from (grid-rows b) b i cs ss in
+    let long = front-parts b i cs ss ws in
+    wrote-then (head ++ body) ws (omega (arith, length-append head body)) (wrote-then head body (omega arith) p q) r
+
 -- THE KEYS OF AN ACCEPTED DEALING
+
+-- player 0's key is written: its front, and the last word behind it
+pub record Begun (b : Board) (l : Lent) (last start : ℕ) (old fronted begun : List ℕ) : Type 0 where
+  pub room : b .p * key-long b ≤ length old
+  pub front : Wrote 0 (key-front b 0 (l .arrays) (l .seeds) (l .words)) last old fronted
+  pub word : Wrote last (dealt-word b (rule b) (l .point) (l .value) (l .seeds) (l .words)) start fronted begun
 
 module _ (b : Board) (l : Lent) (facts : Lent-in b l) where
   abbrev front : ℕ → List ℕ
@@ -126,3 +150,52 @@ module _ (b : Board) (l : Lent) (facts : Lent-in b l) where
       let next : suc i + k ≡ i + suc k = omega arith in
       ap (λ (r : List ℕ). one-key i ++ r) (keys-snoc k (suc i))
       ∙ rw next (sym (append-assoc (one-key i) (some-keys k (suc i)) (one-key (i + suc k))))
+
+  -- WRITING THEM
+
+  least : 2 ≤ b .p
+  least = board-in b (facts .accepted) .players-least
+
+  -- there is room for the first key
+  one-key-room : (n : ℕ) → b .p * key-long b ≤ n → key-long b ≤ n
+  one-key-room n room = let one : 1 ≤ b .p = omega (arith, least) in omega (arith, mul-le-mul-right (key-long b) one)
+
+  pub front-room : (n : ℕ) → b .p * key-long b ≤ n → 0 + length (front 0) ≤ n
+  front-room n room = omega (arith, front-long 0 (omega (arith, least)), one-key-room n room)
+
+  pub word-room : (n last : ℕ) → b .p * key-long b ≤ n → last ≡ 0 + length (front 0) → last + row-long b ≤ n
+  word-room n last room is = omega (arith, front-long 0 (omega (arith, least)), one-key-room n room)
+
+  module _ (last start : ℕ) (old fronted begun : List ℕ) (z : Begun b l last start old fronted begun) where
+    fronted-long : length fronted ≡ length old
+    fronted-long = wrote-length (front 0) (front-room (length old) (z .room)) (z .front)
+
+    last-in : last + row-long b ≤ length fronted
+    last-in = omega (arith, word-room (length old) last (z .room) (z .front .next-is), fronted-long)
+
+    begun-long : length begun ≡ length old
+    begun-long = wrote-length word (omega (arith, last-in, word-long)) (z .word) ∙ fronted-long
+
+    start-is : (last + row-long b ≡ start) × (start ≡ key-long b)
+    start-is =
+        let here = front-long 0 (omega (arith, least)) in
+        (omega (arith, z .word .next-is, word-long), omega (arith, z .front .next-is, z .word .next-is, word-long))
+
+    module _ (player next : ℕ) (keys : List ℕ) (from : 1 ≤ player) (so-far : Wrote start (some-keys (player - 1) 1) next begun keys) where
+      -- behind the keys of the players before this one
+      next-is-at : player ≤ b .p → next ≡ player * key-long b
+      next-is-at h =
+          omega (arith, so-far .next-is, start-is .1, keys-long (player - 1) 1 (omega arith), one-more-row player (key-long b) from)
+
+      -- this player's key has its room
+      key-room : player < b .p → player * key-long b + key-long b ≤ length old
+      key-room h = omega (arith, mul-le-mul-right (key-long b) h, z .room)
+
+      keys-kept : player ≤ b .p → length keys ≡ length old
+      keys-kept h =
+          let here = next-is-at h in
+          wrote-length (some-keys (player - 1) 1) (omega (arith, so-far .next-is, begun-long, mul-le-mul-right (key-long b) h, z .room)) so-far ∙ begun-long
+
+      pub next-front-room : player < b .p → next + length (front player) ≤ length keys
+      next-front-room h =
+          omega (arith, next-is-at (omega arith), key-room h, front-long player h, keys-kept (omega arith))

@@ -1,3 +1,10 @@
+-- `dealing::last_word::xor_expanded` meets its contract. Assumes nothing.
+use mathlib.Core.Path.{_≡_, sym, _∙_}
+use Prim.Native.Nat.{ℕ, _≤_}
+use native.Mathlib.Omega.{arith}
+use lib.ListN.{length, take, replicate, length-replicate}
+use lib.Seq.{length-take-le}
+use denote.Ref.{now}
 use borrow.Author.Needs.{needs}
 use Rattle.dealing.proofs.last_word.xor_expanded.Statement.{statement}
 use Rattle.dealing.proofs.last_word.xor_expanded.Tie as tie
@@ -5,23 +12,22 @@ use Rattle.dealing.proofs.last_word.xor_expanded.Reads as reads
 use Rattle.dealing.proofs.last_word.xor_expanded.Lts as lts
 use Rattle.dealing.proofs.last_word.xor_rows.Reads as xor-rows-reads
 
--- src/last_word.rt:64:19
+-- the front of the scratch row
+front-long : (n most : ℕ) → n ≤ most → length (take n (replicate {A = ℕ} most 0)) ≡ n
+front-long n most h = length-take-le n (replicate {A = ℕ} most 0) (omega (arith, length-replicate {A = ℕ} most 0))
+
 array-borrow-prefix-row : tie.Need-array-borrow-prefix-row
 array-borrow-prefix-row c = search needs
 
--- src/last_word.rt:64:19
 slice-aggregate-xor-rows : tie.Need-slice-aggregate-xor-rows
 slice-aggregate-xor-rows c = ?
 
--- src/last_word.rt:64:5
 xor-rows-requires : tie.Need-xor-rows-requires
 xor-rows-requires c κs = ?
 
--- src/last_word.rt:58:1
 same-length : tie.Need-same-length
 same-length c = search needs
 
--- src/last_word.rt:58:1
 returns : tie.Need-returns
 returns c = search needs
 

@@ -17,7 +17,7 @@ columns-requires c κs = search needs
 
 add-result : tie.Need-add-result
 add-result c =
-    let s = c .before .before in
+    let s = c .before in
     let b = board-of (s .args .board) in
     omega (arith, c .columns .ensures, columns-most b (board-in b (s .pre)))
 
