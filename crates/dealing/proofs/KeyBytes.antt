@@ -1,5 +1,5 @@
 -- The laws of whole keys: how long their parts are, that a key is its front and the last word, and keys written one behind another. Assumes nothing.
-use mathlib.Core.Path.{_≡_, refl, sym, ap, _∙_}
+use mathlib.Core.Path.{_≡_, refl, sym, ap, _∙_, subst}
 use mathlib.Core.Bool.{Bool, true, false, _&&_, cond}
 use mathlib.Core.List.{List, [], _∷_, _++_, append-assoc, append-nil}
 use Prim.Native.Nat.{ℕ, zero, suc, _+_, _*_, _-_, _/_, _^_, _≤_, _<_}
@@ -199,3 +199,52 @@ module _ (b : Board) (l : Lent) (facts : Lent-in b l) where
       pub next-front-room : player < b .p → next + length (front player) ≤ length keys
       next-front-room h =
           omega (arith, next-is-at (omega arith), key-room h, front-long player h, keys-kept (omega arith))
+
+      -- there is room behind its front for the last word, which stands before it
+      pub again-room : player < b .p → (end row : ℕ) (now : List ℕ) → row ≡ row-long b → Wrote next (front player) end keys now →
+          (last + row ≤ end) × (end + row ≤ length now)
+      again-room h end row now is p =
+          let here = next-is-at (omega arith) in
+          let kept = wrote-length (front player) (next-front-room h) p in (
+            omega (arith, start-is .0, start-is .1, here, mul-le-mul-right (key-long b) from, p .next-is),
+            omega (arith, p .next-is, front-long player h, here, key-room h, kept, keys-kept (omega arith)),
+          )
+
+      -- and with both its key is written
+      pub turn : player < b .p → (end after row : ℕ) (between now : List ℕ) → row ≡ row-long b → Wrote next (front player) end keys between →
+          Wrote end (take row (drop last between)) after between now → Wrote start (some-keys (player + 1 - 1) 1) after begun now
+      turn h end after row between now is p q =
+          let before = some-keys (player - 1) 1 in
+          let count : player + 1 - 1 ≡ suc (player - 1) = omega arith in
+          let this : 1 + (player - 1) ≡ player = omega arith in
+          let grown : some-keys (player + 1 - 1) 1 ≡ before ++ front player ++ word =
+              ap (λ (k : ℕ). some-keys k 1) count ∙ keys-snoc (player - 1) 1 ∙ ap (λ (k : ℕ). before ++ one-key k) this ∙ ap (λ (k : List ℕ). before ++ k) (key-is player)
+              ∙ sym (append-assoc before (front player) word) in
+          let long : length (before ++ front player) ≡ length before + length (front player) = length-append before (front player) in
+          let all-long = keys-long (player + 1 - 1) 1 (omega arith) in
+          let players : player + 1 - 1 ≡ player = omega arith in
+          let all : length (some-keys (player + 1 - 1) 1) ≡ player * key-long b = all-long ∙ ap (λ (k : ℕ). k * key-long b) players in
+          let room : length before + length (front player) + row-long b ≡ player * key-long b =
+              omega (arith, all, ap length grown ∙ length-append (before ++ front player) word, long, word-long) in
+          let fits : start + (length before + length (front player)) ≤ length begun = omega (arith, start-is .1, key-room h, begun-long) in
+          let fronts = wrote-then before (front player) (omega arith) so-far p in
+          let tail : take row (drop last between) ≡ word =
+              ap (λ (x : List ℕ). take row (drop last x)) (fronts .now-is)
+              ∙ part-kept last row start (before ++ front player) begun (omega (arith, start-is .0)) (omega arith)
+              ∙ ap (λ (x : List ℕ). take row (drop last x)) (z .word .now-is)
+              ∙ ap (λ (k : ℕ). take k (drop last (written last word fronted))) (is ∙ sym word-long)
+              ∙ part-written last word fronted (omega (arith, last-in)) in
+          wrote-more (before ++ front player) word (some-keys (player + 1 - 1) 1) grown (omega (arith, all, start-is .1, key-room h, begun-long)) fronts
+          (subst (λ (x : List ℕ). Wrote end x after between now) tail q)
+
+    -- in the end all keys are written
+    pub all-written : (player next : ℕ) (keys : List ℕ) → player ≡ b .p → Wrote start (some-keys (player - 1) 1) next begun keys → keys ≡ in-front (dealt-keys b l) old
+    unfolding in-front dealt-keys keys-from
+    all-written player next keys done so-far =
+        let rest = some-keys (player - 1) 1 in
+        let count : b .p ≡ suc (player - 1) = omega (arith, least) in
+        let whole : some-keys (b .p) 0 ≡ front 0 ++ word ++ rest = ap (λ (k : ℕ). some-keys k 0) count ∙ ap (λ (k : List ℕ). k ++ rest) (key-is 0) in
+        let long = keys-long (b .p) 0 (omega arith) in
+        let first = wrote-then (front 0) word (omega (arith, z .front .next-is, last-in, fronted-long, word-long)) (z .front) (z .word) in
+        let all = wrote-more (front 0 ++ word) rest (some-keys (b .p) 0) whole (omega (arith, long, z .room)) first so-far in
+        all .now-is ∙ written-front (some-keys (b .p) 0) old

@@ -6,7 +6,7 @@ use native.Mathlib.Omega.{arith}
 use native.Mathlib.Nat.{add-zero, mul-le-mul-right}
 use native.Mathlib.Numerals.{add-one}
 use lib.ListN.{length, getD, take, drop, replicate, length-append, length-drop, length-replicate, replicate-append-replicate}
-use lib.Seq.{take-at, drop-at, drop-drop, length-take-le}
+use lib.Seq.{take-at, drop-at, drop-drop, take-all, length-take-le}
 use Rattle.xor.specs.Xor.{xors, zeros}
 use Rattle.xor.proofs.Laws.{length-xors}
 use Rattle.grid.specs.Grid.{Board, columns, grid-rows, row-long, row-of, piece, xor-rows, xor-all}
@@ -110,6 +110,18 @@ module _ (b : Board) (f : Board-in b) (a : ℕ) (value seeds words : List ℕ) (
       let rows = xor-rows-are (columns b) 0 b (grid-rows b * columns b) (expand (row-long b)) seeds (a / b .wide)
           (xor-all (words-from (columns b - 1) (row-long b) words) (piece b a value)) (omega (arith, seeds-room)) in
       r ∙ rw (q, p, cell) (sym (rw first at rows))
+
+  -- the same in the numbers that the code has at hand
+  pub word-steps : (first second third J : ℕ) → first ≡ row-long b → second ≡ row-long b → third ≡ row-long b → J ≡ columns b →
+      {piece-out words-out rows-out : List ℕ} →
+      piece-out ≡ zeros (a % b .wide * b .w) ++ value ++ zeros (first - (a % b .wide * b .w + length value)) →
+      words-out ≡ xor-all (words-from (J - 1) second words) piece-out →
+      rows-out ≡ xor-all (rows-from J (expand third) (take (length seeds - 32 * (a / b .wide * J)) (drop (32 * (a / b .wide * J)) seeds))) words-out →
+      rows-out ≡ dealt-word b (rule b) a value seeds words
+  word-steps first second third J e f g h p q r =
+      let all : take (length seeds - 32 * (a / b .wide * J)) (drop (32 * (a / b .wide * J)) seeds) ≡ drop (32 * (a / b .wide * J)) seeds =
+          take-all (length seeds - 32 * (a / b .wide * J)) (drop (32 * (a / b .wide * J)) seeds) (rw length-drop (omega arith)) in
+      word-made (rw e at p) (rw (h, f) at q) (rw (h, g) at (rw all at r))
 
   -- a value between zeros has a row's length
   between-zeros : length (zeros (a % b .wide * b .w) ++ value ++ zeros (row-long b - (a % b .wide * b .w + length value))) ≡ row-long b

@@ -4,7 +4,7 @@ use Prim.Native.Nat.{ℕ, _+_, _≤_}
 use native.Mathlib.Omega.{arith}
 use lib.ListN.{length}
 use denote.Ref.{now}
-use Rattle.grid.specs.Grid.{grid-rows}
+use Rattle.grid.specs.Grid.{board, grid-rows}
 use Rattle.grid.specs.Code.{board-of}
 use Rattle.grid.proofs.Facts.{board-in}
 use Rattle.keys.specs.Keys.{header, body-from}
@@ -26,6 +26,7 @@ long s =
     omega (arith, s .pre .4, front-parts (board-of (a .board)) (a .player) (now (a .arrays)) (now (a .seeds)) (now (a .words)))
 
 put-header-requires : tie.Need-put-header-requires
+unfolding board
 put-header-requires c κs =
     let s = c .before .before .before .before .before in
     let b = board-of (s .args .board) in

@@ -5,7 +5,7 @@ use Prim.Native.Nat.{ℕ, _+_, _-_, _≤_}
 use native.Mathlib.Omega.{arith}
 use lib.ListN.{length, take, drop}
 use denote.Ref.{now}
-use Rattle.grid.specs.Grid.{row-long}
+use Rattle.grid.specs.Grid.{board, row-long}
 use Rattle.grid.specs.Code.{board-of}
 use Rattle.grid.proofs.Facts.{board-in}
 use Rattle.writer.specs.Written.{Wrote, written}
@@ -52,6 +52,7 @@ same-length : tie.Need-same-length
 same-length c = search needs
 
 returns : tie.Need-returns
+unfolding board
 returns c =
     let s = c .before .before .before .before .before .before .before .before .before in
     let a = s .args in
