@@ -50,7 +50,7 @@ body-long (suc k) g b i a cs ss f h good enough seeds =
     let others = arrays-good k (suc g) b a (drop J cs) in
     let array-long : length array ≡ J = length-take-le J cs (omega arith) in
     let half = half-is-marked b (eqb g (a / b .wide)) array
-        (record { players-least = f .players-least; players-most = omega (arith, f .players-most); long = array-long; good = and-left this others good }) i h in
+    (record { players-least = f .players-least; players-most = omega (arith, f .players-most); long = array-long; good = and-left this others good }) i h in
     let held = held-long i array ss (omega arith) in
     let even = columns-half b f in
     let rest = body-long k (suc g) b i a (drop J cs) (drop (32 * J) ss) f h (and-right this others good) (rw length-drop (omega arith)) (rw length-drop (omega arith)) in
@@ -218,22 +218,22 @@ module _ (b : Board) (l : Lent) (facts : Lent-in b l) where
           let count : player + 1 - 1 ≡ suc (player - 1) = omega arith in
           let this : 1 + (player - 1) ≡ player = omega arith in
           let grown : some-keys (player + 1 - 1) 1 ≡ before ++ front player ++ word =
-              ap (λ (k : ℕ). some-keys k 1) count ∙ keys-snoc (player - 1) 1 ∙ ap (λ (k : ℕ). before ++ one-key k) this ∙ ap (λ (k : List ℕ). before ++ k) (key-is player)
-              ∙ sym (append-assoc before (front player) word) in
+          ap (λ (k : ℕ). some-keys k 1) count ∙ keys-snoc (player - 1) 1 ∙ ap (λ (k : ℕ). before ++ one-key k) this ∙ ap (λ (k : List ℕ). before ++ k) (key-is player)
+          ∙ sym (append-assoc before (front player) word) in
           let long : length (before ++ front player) ≡ length before + length (front player) = length-append before (front player) in
           let all-long = keys-long (player + 1 - 1) 1 (omega arith) in
           let players : player + 1 - 1 ≡ player = omega arith in
           let all : length (some-keys (player + 1 - 1) 1) ≡ player * key-long b = all-long ∙ ap (λ (k : ℕ). k * key-long b) players in
           let room : length before + length (front player) + row-long b ≡ player * key-long b =
-              omega (arith, all, ap length grown ∙ length-append (before ++ front player) word, long, word-long) in
+          omega (arith, all, ap length grown ∙ length-append (before ++ front player) word, long, word-long) in
           let fits : start + (length before + length (front player)) ≤ length begun = omega (arith, start-is .1, key-room h, begun-long) in
           let fronts = wrote-then before (front player) (omega arith) so-far p in
           let tail : take row (drop last between) ≡ word =
-              ap (λ (x : List ℕ). take row (drop last x)) (fronts .now-is)
-              ∙ part-kept last row start (before ++ front player) begun (omega (arith, start-is .0)) (omega arith)
-              ∙ ap (λ (x : List ℕ). take row (drop last x)) (z .word .now-is)
-              ∙ ap (λ (k : ℕ). take k (drop last (written last word fronted))) (is ∙ sym word-long)
-              ∙ part-written last word fronted (omega (arith, last-in)) in
+          ap (λ (x : List ℕ). take row (drop last x)) (fronts .now-is)
+          ∙ part-kept last row start (before ++ front player) begun (omega (arith, start-is .0)) (omega arith)
+          ∙ ap (λ (x : List ℕ). take row (drop last x)) (z .word .now-is)
+          ∙ ap (λ (k : ℕ). take k (drop last (written last word fronted))) (is ∙ sym word-long)
+          ∙ part-written last word fronted (omega (arith, last-in)) in
           wrote-more (before ++ front player) word (some-keys (player + 1 - 1) 1) grown (omega (arith, all, start-is .1, key-room h, begun-long)) fronts
           (subst (λ (x : List ℕ). Wrote end x after between now) tail q)
 

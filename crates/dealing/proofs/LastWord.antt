@@ -31,9 +31,9 @@ unfolding written zeros
 piece-written from n value h =
     let end = from + length value in
     let front : take from (replicate {A = ℕ} n 0) ≡ replicate from 0 =
-        ap (take from) (zeros-parts from n (omega arith)) ∙ take-at (replicate {A = ℕ} from 0) (replicate (n - from) 0) from (length-replicate {A = ℕ} from 0) in
+    ap (take from) (zeros-parts from n (omega arith)) ∙ take-at (replicate {A = ℕ} from 0) (replicate (n - from) 0) from (length-replicate {A = ℕ} from 0) in
     let behind : drop end (replicate {A = ℕ} n 0) ≡ replicate (n - end) 0 =
-        ap (drop end) (zeros-parts end n h) ∙ drop-at (replicate {A = ℕ} end 0) (replicate (n - end) 0) end (length-replicate {A = ℕ} end 0) in
+    ap (drop end) (zeros-parts end n h) ∙ drop-at (replicate {A = ℕ} end 0) (replicate (n - end) 0) end (length-replicate {A = ℕ} end 0) in
     rw (front, behind)
 
 -- ONE MORE WORD
@@ -108,7 +108,7 @@ module _ (b : Board) (f : Board-in b) (a : ℕ) (value seeds words : List ℕ) (
       let cell : a % b .wide * b .w + length value ≡ suc (a % b .wide) * b .w = omega arith in
       let first : a / b .wide * columns b + 0 ≡ a / b .wide * columns b = omega arith in
       let rows = xor-rows-are (columns b) 0 b (grid-rows b * columns b) (expand (row-long b)) seeds (a / b .wide)
-          (xor-all (words-from (columns b - 1) (row-long b) words) (piece b a value)) (omega (arith, seeds-room)) in
+      (xor-all (words-from (columns b - 1) (row-long b) words) (piece b a value)) (omega (arith, seeds-room)) in
       r ∙ rw (q, p, cell) (sym (rw first at rows))
 
   -- the same in the numbers that the code has at hand
@@ -120,7 +120,7 @@ module _ (b : Board) (f : Board-in b) (a : ℕ) (value seeds words : List ℕ) (
       rows-out ≡ dealt-word b (rule b) a value seeds words
   word-steps first second third J e f g h p q r =
       let all : take (length seeds - 32 * (a / b .wide * J)) (drop (32 * (a / b .wide * J)) seeds) ≡ drop (32 * (a / b .wide * J)) seeds =
-          take-all (length seeds - 32 * (a / b .wide * J)) (drop (32 * (a / b .wide * J)) seeds) (rw length-drop (omega arith)) in
+      take-all (length seeds - 32 * (a / b .wide * J)) (drop (32 * (a / b .wide * J)) seeds) (rw length-drop (omega arith)) in
       word-made (rw e at p) (rw (h, f) at q) (rw (h, g) at (rw all at r))
 
   -- a value between zeros has a row's length

@@ -51,14 +51,14 @@ row-length-requires c κs = facts (c .before .before .before .before .before) .a
 
 put-front-requires : tie.Need-put-front-requires Inv-loop μ-loop
 unfolding board
-put-front-requires c κs = 
+put-front-requires c κs =
     let s = c .before .before .before .before .before .before .before in
     let f = facts s in
     (f .accepted, omega arith, f .arrays, f .seeds, front-room (board-of (s .args .board)) (lent-to s) f (length (now (s .args .keys))) (s .pre .1))
 
 put-last-word-requires : tie.Need-put-last-word-requires Inv-loop μ-loop
 unfolding board
-put-last-word-requires c κs = 
+put-last-word-requires c κs =
     let s = c .before .before .before .before .before .before .before .before .before .before .before in
     let f = facts s in
     let p = c .before .before .before .put-front in
@@ -70,7 +70,7 @@ loop-holds c = (omega arith, omega (arith, board-in (board-of (c .before .before
 
 put-front-requires-2 : tie.Need-put-front-requires-2 Inv-loop μ-loop
 unfolding board
-put-front-requires-2 c κs = 
+put-front-requires-2 c κs =
     let s = c .before .before .before .before .before .before .before .before .before .before .before .before .before .before .before .before .before .before in
     let f = facts s in
     let l = c .before .before .before .loop in
@@ -79,7 +79,7 @@ put-front-requires-2 c κs =
 
 put-again-requires : tie.Need-put-again-requires Inv-loop μ-loop
 unfolding board
-put-again-requires c κs = 
+put-again-requires c κs =
     let l = c .before .before .before .before .before .before .before .loop in
     again-room (board-of (c .before .before .before .before .before .before .before .before .before .before .before .before .before .before .before .before .before .before .before .before .before .before .args .board)) (lent-to (c .before .before .before .before .before .before .before .before .before .before .before .before .before .before .before .before .before .before .before .before .before .before)) (facts (c .before .before .before .before .before .before .before .before .before .before .before .before .before .before .before .before .before .before .before .before .before .before)) _ _ _ _ _ (begun (c .before .before .before .before .before .before .before .before)) (l .player) (l .next) (l .keys) (l .inv .0) (l .inv .3) (omega arith) _ (c .before .before .before .before .before .before .before .before .before .before .before .before .before .before .before .before .row-length .result) _ (c .before .before .before .before .before .before .before .before .before .before .before .before .before .before .before .before .row-length .ensures) (c .before .before .before .put-front2 .ensures)
 
@@ -91,19 +91,22 @@ loop-less c = omega arith
 
 loop-again : tie.Need-loop-again Inv-loop μ-loop
 unfolding board
-loop-again c = 
+loop-again c =
     let l = c .before .before .before .before .before .before .before .before .before .before .loop in
     let f = c .before .before .before .before .before .before .put-front2 in
-    let w = c .before .before .put-again in
-    (omega arith, omega arith, w .kept .0 ∙ f .kept .0 ∙ l .inv .2,
-    turn (board-of (c .before .before .before .before .before .before .before .before .before .before .before .before .before .before .before .before .before .before .before .before .before .before .before .before .before .args .board)) (lent-to (c .before .before .before .before .before .before .before .before .before .before .before .before .before .before .before .before .before .before .before .before .before .before .before .before .before)) (facts (c .before .before .before .before .before .before .before .before .before .before .before .before .before .before .before .before .before .before .before .before .before .before .before .before .before)) _ _ _ _ _ (begun (c .before .before .before .before .before .before .before .before .before .before .before)) (l .player) (l .next) (l .keys) (l .inv .0) (l .inv .3) (omega arith) _ _ (c .before .before .before .before .before .before .before .before .before .before .before .before .before .before .before .before .before .before .before .row-length .result) _ _ (c .before .before .before .before .before .before .before .before .before .before .before .before .before .before .before .before .before .before .before .row-length .ensures) (f .ensures) (w .ensures))
+    let w = c .before .before .put-again in (
+      omega arith,
+      omega arith,
+      w .kept .0 ∙ f .kept .0 ∙ l .inv .2,
+      turn (board-of (c .before .before .before .before .before .before .before .before .before .before .before .before .before .before .before .before .before .before .before .before .before .before .before .before .before .args .board)) (lent-to (c .before .before .before .before .before .before .before .before .before .before .before .before .before .before .before .before .before .before .before .before .before .before .before .before .before)) (facts (c .before .before .before .before .before .before .before .before .before .before .before .before .before .before .before .before .before .before .before .before .before .before .before .before .before)) _ _ _ _ _ (begun (c .before .before .before .before .before .before .before .before .before .before .before)) (l .player) (l .next) (l .keys) (l .inv .0) (l .inv .3) (omega arith) _ _ (c .before .before .before .before .before .before .before .before .before .before .before .before .before .before .before .before .before .before .before .row-length .result) _ _ (c .before .before .before .before .before .before .before .before .before .before .before .before .before .before .before .before .before .before .before .row-length .ensures) (f .ensures) (w .ensures),
+    )
 
 same-length : tie.Need-same-length Inv-loop μ-loop
 same-length c = omega arith
 
 returns : tie.Need-returns Inv-loop μ-loop
 unfolding board
-returns c = 
+returns c =
     let l = c .before .before .loop in
     all-written (board-of (c .before .before .before .before .before .before .before .before .before .before .before .before .before .before .before .before .before .args .board)) (lent-to (c .before .before .before .before .before .before .before .before .before .before .before .before .before .before .before .before .before)) (facts (c .before .before .before .before .before .before .before .before .before .before .before .before .before .before .before .before .before)) _ _ _ _ _ (begun (c .before .before .before)) (l .player) (l .next) (l .keys) (omega arith) (l .inv .3)
 

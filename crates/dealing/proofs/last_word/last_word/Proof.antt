@@ -8,7 +8,7 @@ use lib.Seq.{length-take-le}
 use denote.Ref.{now}
 use Rattle.grid.specs.Grid.{board, columns, grid-rows, row-long}
 use Rattle.grid.specs.Code.{board-of}
-use Rattle.grid.proofs.Facts.{board-in, columns-pos}
+use Rattle.grid.proofs.Facts.{board-in, columns-pos, grid-row-in}
 use Rattle.grid.proofs.Refusing.{row-most}
 use Rattle.dealing.proofs.LastWord.{cell-room, seeds-room, word-steps}
 use borrow.Author.Needs.{needs}
@@ -77,7 +77,12 @@ unfolding board
 div-from c = let s = c .before .before .before .before .before .before .before .before .before .before .before .before .before .before .before .before in omega (arith, board-in (board-of (s .args .board)) (s .pre .0) .wide-least)
 
 cast-from : tie.Need-cast-from
-cast-from c = omega (arith, c .before .before .before .before .before .before .before .before .before .before .before .before .before .before .before .before .pre .1)
+unfolding board
+cast-from c =
+    let s = c .before .before .before .before .before .before .before .before .before .before .before .before .before .before .before .before in
+    let b = board-of (s .args .board) in
+    let f = board-in b (s .pre .0) in
+    omega (arith, grid-row-in b f (s .args .point) (s .pre .1), f .rows-most)
 
 mul-from : tie.Need-mul-from
 mul-from c = omega (arith, seeds-there (c .before .before .before .before .before .before .before .before .before .before .before .before .before .before .before .before) (c .before .before .before .before .before .before .before .before .before .before .before .columns .result) (c .before .before .before .before .before .before .before .before .before .before .before .columns .ensures))
@@ -95,7 +100,7 @@ part-xor-expanded-end : tie.Need-part-xor-expanded-end
 part-xor-expanded-end c = search needs
 
 xor-expanded-requires : tie.Need-xor-expanded-requires
-xor-expanded-requires c κs = 
+xor-expanded-requires c κs =
     let s = c .before .before .before .before .before .before .before .before .before .before .before .before .before .before .before .before .before .before in
     let J = c .before .before .before .before .before .before .before .before .before .before .before .before .before .columns in
     (omega (arith, word-small s, c .before .before .before .before .before .xor-words .kept .0, c .before .before .before .before .before .before .before .before .before .put-piece .kept .0), behind _ (32 * J .result) (now (s .args .seeds)) (seeds-there s (J .result) (J .ensures)))
@@ -105,7 +110,7 @@ same-length c = search needs
 
 returns : tie.Need-returns
 unfolding board
-returns c = 
+returns c =
     let s = c .before .before .before .before .before .before .before .before .before .before .before .before .before .before .before .before .before .before .before .before .before in
     let a = s .args in
     let b = board-of (a .board) in

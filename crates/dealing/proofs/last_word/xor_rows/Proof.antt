@@ -90,10 +90,13 @@ loop-again c =
     let l = c .before .before .before .before .before .before .before .before .before .before .before .loop in
     let made = c .before .before .before .before .before .before .before .expand in
     let added = c .before .before .xor-into in
-    let n = length (now (a .out)) in
-    (omega arith, added .kept .0 ∙ l .inv .1, omega arith,
-    seeds-turn (l .column) (expand n) (now (a .seeds)) (now (a .out)) (l .inv .3)
-    (row-is n (length (now (a .row))) (length (l .row)) (now (a .seeds)) (made .last .1 .0) (32 * l .column) (omega arith) (s .pre .0) (l .inv .2) (made .ensures)) (added .ensures))
+    let n = length (now (a .out)) in (
+      omega arith,
+      added .kept .0 ∙ l .inv .1,
+      omega arith,
+      seeds-turn (l .column) (expand n) (now (a .seeds)) (now (a .out)) (l .inv .3)
+          (row-is n (length (now (a .row))) (length (l .row)) (now (a .seeds)) (made .last .1 .0) (32 * l .column) (omega arith) (s .pre .0) (l .inv .2) (made .ensures)) (added .ensures),
+    )
 
 same-length : tie.Need-same-length Inv-loop μ-loop
 same-length c = c .before .loop .inv .1

@@ -96,7 +96,7 @@ put-row-requires c κs =
       omega (arith, m .ensures, mark-bytes-most b (board-in b (s .pre .0))),
       row-seeds (l .grid-row * J .result) (J .result) (now (a .arrays)) (now (a .seeds)) (room (c .before .before .before .before)) (all-seeds s),
       rw (row-here (l .grid-row) (J .result) (m .result) (a .player) b (now (a .arrays)) (now (a .seeds)) (J .ensures) (m .ensures))
-      (omega (arith, l .inv .2 .next-is, l .inv .1, s .pre .4, body-within (l .grid-row) (grid-rows b) b (a .player) (now (a .arrays)) (now (a .seeds)) within)),
+          (omega (arith, l .inv .2 .next-is, l .inv .1, s .pre .4, body-within (l .grid-row) (grid-rows b) b (a .player) (now (a .arrays)) (now (a .seeds)) within)),
     )
 
 add-grid-row : tie.Need-add-grid-row Inv-loop μ-loop
@@ -118,7 +118,7 @@ loop-again c =
       omega arith,
       written .kept .0 ∙ l .inv .1,
       rows-turn (a .at) (l .grid-row) (grid-rows b) (a .player) b (now (a .arrays)) (now (a .seeds)) within (s .pre .4) (l .inv .2)
-      (rw (row-here (l .grid-row) (J .result) (m .result) (a .player) b (now (a .arrays)) (now (a .seeds)) (J .ensures) (m .ensures)) at (written .ensures)),
+          (rw (row-here (l .grid-row) (J .result) (m .result) (a .player) b (now (a .arrays)) (now (a .seeds)) (J .ensures) (m .ensures)) at (written .ensures)),
     )
 
 same-length : tie.Need-same-length Inv-loop μ-loop
