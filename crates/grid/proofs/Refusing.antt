@@ -3,12 +3,10 @@
 use mathlib.Core.Path.{_≡_, sym, _∙_}
 use mathlib.Core.Bool.{Bool, true, false, _&&_, not}
 use Prim.Native.Nat.{ℕ, _≤_}
-use native.Mathlib.Nat.{mul-le-mul}
 use lib.Dec.{leb, ltb}
 use borrow.Author.Tests.{leb-true, not-true, not-false}
 use Rattle.xor.proofs.Laws.{and-left, and-right}
-use Rattle.grid.specs.Grid.{Board, grid-rows, row-long, board-refusal}
-use Rattle.grid.proofs.Facts.{board-in}
+use Rattle.grid.specs.Grid.{Board, grid-rows, board-refusal}
 
 -- A number's range, as the definition tests it
 
@@ -57,8 +55,3 @@ module _ (b : Board) where
       → ltb 256 (grid-rows b) ≡ false → 0 ≡ board-refusal b
   unfolding board-refusal
   refused-0 p n m w rows = simp (p, n, m, w, rows)
-
--- an accepted board's row has at most 4,096 bytes
-pub row-most : (b : Board) → board-refusal b ≡ 0 → row-long b ≤ 4096
-unfolding row-long
-row-most b h = let f = board-in b h in mul-le-mul (f .wide-most) (f .value-most)
