@@ -9,8 +9,8 @@ pub mod Holding
 pub mod Joining
 pub mod LastWord
 pub mod Marks
-pub mod Pigeonhole
 pub mod Mending
+pub mod Pigeonhole
 pub mod Powers
 pub mod Refilling
 pub mod Refusing

@@ -3,12 +3,14 @@
 pub mod Lists
 pub mod Numbers
 pub mod Marks
-pub mod Parts
-pub mod Accepted
-pub mod Opening
 pub mod Reading
 pub mod Counting
 pub mod Lengths
+pub mod Checks
+pub mod Parts
+pub mod Accepted
+pub mod Opening
 pub mod Dealing
 pub mod Promise
 pub mod Document03
+pub mod Holding
