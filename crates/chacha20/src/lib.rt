@@ -104,7 +104,8 @@ fn serialize(state: [u32; 16], initial: [u32; 16], out: &mut [u8])
 {
     let mut i: usize = 0;
     while i < 16 {
-        let sum = std::num::wrapping_add_u32(state[i], initial[i]);
+        let word = state[i];
+        let sum = std::num::wrapping_add_u32(word, initial[i]);
         let from = 4 * i;
         let to = from + 4;
         put_word(sum, &mut out[from..to]);

@@ -1,3 +1,4 @@
+-- `chacha20::copy_front` meets its contract. The loop's invariant: the first i bytes are copied, the rest is as it was lent. Assumes nothing.
 use mathlib.Core.Path.{_≡_, refl, _∙_}
 use mathlib.Core.List.{List, _++_, append-nil}
 use Prim.Native.Nat.{ℕ, _≤_, _-_}
@@ -6,8 +7,6 @@ use lib.ListN.{length, take, drop, length-set, drop-of-length-le}
 use Rattle.xor.proofs.Writing.{next-written}
 use Rattle.chacha20.proofs.copy_front.Statement.{statement}
 use Rattle.chacha20.proofs.copy_front.Tie as tie
-use Rattle.chacha20.proofs.copy_front.Reads as reads
-use Rattle.chacha20.proofs.copy_front.Lts as lts
 
 -- after the last turn nothing of the old is left
 whole : (out old bytes : List ℕ) (i : ℕ) → length old ≤ i → i ≤ length old → out ≡ take i bytes ++ drop i old → out ≡ take (length old) bytes
@@ -21,37 +20,29 @@ Inv-loop bytes out₀ i₀ out i = (i ≤ length out₀) × (length out ≡ leng
 abbrev μ-loop : tie.MeasureT-loop
 μ-loop bytes out₀ i₀ out i = length out₀ - i
 
--- src/lib.rt:172:5
 loop-holds : tie.Need-loop-holds Inv-loop μ-loop
 loop-holds c = (omega arith, refl, refl)
 
--- src/lib.rt:173:18
 shared-slice-read-out : tie.Need-shared-slice-read-out Inv-loop μ-loop
 shared-slice-read-out c = omega arith
 
--- src/lib.rt:173:9
 slice-write-out : tie.Need-slice-write-out Inv-loop μ-loop
 slice-write-out c = omega arith
 
--- src/lib.rt:174:9
 add-i : tie.Need-add-i Inv-loop μ-loop
 add-i c = omega arith
 
--- src/lib.rt:172:5
 loop-less : tie.Need-loop-less Inv-loop μ-loop
 loop-less c = omega arith
 
--- src/lib.rt:172:5
 loop-again : tie.Need-loop-again Inv-loop μ-loop
 loop-again c =
     let l = c .before .before .loop in
     (omega arith, simp length-set (l .inv .1), rw (l .inv .2) (next-written _ _ (l .i) (omega arith) (omega arith)))
 
--- src/lib.rt:167:1
 same-length : tie.Need-same-length Inv-loop μ-loop
 same-length c = c .before .loop .inv .1
 
--- src/lib.rt:167:1
 returns : tie.Need-returns Inv-loop μ-loop
 returns c =
     let l = c .before .loop in

@@ -1,17 +1,12 @@
-use borrow.Author.Needs.{needs}
-use mathlib.Core.Path.{_≡_, refl, _∙_}
-use Prim.Native.Nat.{ℕ, _≤_, _+_, _-_, _*_}
+-- `chacha20::key_stream` meets its contract. The loop's invariant: whole blocks are written up to `done`, the rest is as it was lent. Assumes nothing.
+use mathlib.Core.Path.{_≡_, _∙_}
+use Prim.Native.Nat.{_+_, _-_}
 use native.Mathlib.Omega.{arith}
 use lib.ListN.{length}
-use denote.Ref.{now}
 use borrow.Rule.Slice.PartMut.{mid-len, same-len-mid}
 use Rattle.chacha20.proofs.Stream.{Written, start, next-block, ended, cut}
 use Rattle.chacha20.proofs.key_stream.Statement.{statement}
 use Rattle.chacha20.proofs.key_stream.Tie as tie
-use Rattle.chacha20.proofs.key_stream.Reads as reads
-use Rattle.chacha20.proofs.key_stream.Lts as lts
-use Rattle.chacha20.proofs.block.Reads as block-reads
-use Rattle.chacha20.proofs.short_block.Reads as short-block-reads
 
 abbrev Inv-loop : tie.InvT-loop
 Inv-loop key counter nonce out₀ next₀ done₀ out next done = Written key nonce counter out₀ out next done
@@ -19,31 +14,24 @@ Inv-loop key counter nonce out₀ next₀ done₀ out next done = Written key no
 abbrev μ-loop : tie.MeasureT-loop
 μ-loop key counter nonce out₀ next₀ done₀ out next done = length out₀ - done
 
--- src/lib.rt:200:5
 loop-holds : tie.Need-loop-holds Inv-loop μ-loop
 loop-holds c = start _ _ _ _
 
--- src/lib.rt:200:17
 sub-loop : tie.Need-sub-loop Inv-loop μ-loop
 sub-loop c = omega arith
 
--- src/lib.rt:201:19
 add-end : tie.Need-add-end Inv-loop μ-loop
 add-end c = omega arith
 
--- src/lib.rt:202:33
 sub-block : tie.Need-sub-block Inv-loop μ-loop
 sub-block c = omega arith
 
--- src/lib.rt:202:33
 part-block-start : tie.Need-part-block-start Inv-loop μ-loop
 part-block-start c = omega arith
 
--- src/lib.rt:202:33
 part-block-end : tie.Need-part-block-end Inv-loop μ-loop
 part-block-end c = omega arith
 
--- src/lib.rt:202:9
 block-requires : tie.Need-block-requires Inv-loop μ-loop
 block-requires c κs =
     let l = c .before .before .loop in
@@ -51,59 +39,48 @@ block-requires c κs =
     let block-long : l .done + 64 - l .done ≡ 64 = omega arith in
     (pre .0, pre .1, mid-len (l .done) (l .done + 64) (l .out) (omega arith) ∙ block-long)
 
--- src/lib.rt:204:9
 add-next : tie.Need-add-next Inv-loop μ-loop
 add-next c = omega arith
 
--- src/lib.rt:200:5
 loop-less : tie.Need-loop-less Inv-loop μ-loop
 loop-less c = omega arith
 
--- src/lib.rt:200:5
 loop-again : tie.Need-loop-again Inv-loop μ-loop
 loop-again c =
     let l = c .before .before .before .before .before .loop in
     let put = c .before .before .block in
     next-block _ _ _ _ (l .out) (l .next) (l .done) (l .inv) (put .last .1 .1 .1 .0) (omega arith) (put .kept .1 .1 .1 .0) (put .ensures)
 
--- src/lib.rt:207:39
 sub-short-block : tie.Need-sub-short-block Inv-loop μ-loop
 sub-short-block c = omega arith
 
--- src/lib.rt:207:39
 part-short-block-start : tie.Need-part-short-block-start Inv-loop μ-loop
 part-short-block-start c = omega arith
 
--- src/lib.rt:207:39
 part-short-block-end : tie.Need-part-short-block-end Inv-loop μ-loop
 part-short-block-end c = omega arith
 
--- src/lib.rt:207:9
 short-block-requires : tie.Need-short-block-requires Inv-loop μ-loop
 short-block-requires c κs =
     let l = c .before .before .before .loop in
     let pre = c .before .before .before .before .before .before .before .pre in
     (pre .0, pre .1, omega (arith, mid-len (l .done) (length (l .out)) (l .out) (omega arith)))
 
--- src/lib.rt:194:1
 same-length : tie.Need-same-length Inv-loop μ-loop
 same-length c =
     let l = c .before .before .before .before .before .before .loop in
     let put = c .before .before .short-block in
     same-len-mid (l .done) (length (l .out) - l .done) (l .out) (put .last .1 .1 .1 .0) (put .kept .1 .1 .1 .0) ∙ l .inv .same
 
--- src/lib.rt:194:1
 returns : tie.Need-returns Inv-loop μ-loop
 returns c =
     let l = c .before .before .before .before .before .before .loop in
     let put = c .before .before .short-block in
     cut _ _ _ _ (l .out) (l .next) (l .done) (l .inv) (put .last .1 .1 .1 .0) (omega arith) (put .ensures)
 
--- src/lib.rt:194:1
 same-length-2 : tie.Need-same-length-2 Inv-loop μ-loop
 same-length-2 c = c .before .before .loop .inv .same
 
--- src/lib.rt:194:1
 returns-2 : tie.Need-returns-2 Inv-loop μ-loop
 returns-2 c =
     let l = c .before .before .loop in

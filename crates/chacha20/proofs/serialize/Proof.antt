@@ -1,3 +1,4 @@
+-- `chacha20::serialize` meets its contract. The loop's invariant: the first i sums are written, the rest is as it was lent. Assumes nothing.
 use borrow.Author.Needs.{needs}
 use mathlib.Core.Path.{_≡_, refl, _∙_}
 use mathlib.Core.List.{[], _++_}
@@ -10,10 +11,6 @@ use Rattle.chacha20.specs.Expand.{sums, low-bytes}
 use Rattle.chacha20.proofs.Parts.{next-word, all-words}
 use Rattle.chacha20.proofs.serialize.Statement.{statement}
 use Rattle.chacha20.proofs.serialize.Tie as tie
-use Rattle.chacha20.proofs.serialize.Reads as reads
-use Rattle.chacha20.proofs.serialize.Lts as lts
-use Rattle.chacha20.proofs.put_word.Reads as put-word-reads
-use Rattle.std.proofs.num.wrapping_add_u32.Reads as wrapping-add-u32-reads
 
 abbrev Inv-loop : tie.InvT-loop
 Inv-loop out₀ state initial i₀ out i = (i ≤ 16) × (length out ≡ 64) × (out ≡ low-bytes (take i (sums state initial)) ++ drop (4 * i) out₀)
@@ -21,67 +18,52 @@ Inv-loop out₀ state initial i₀ out i = (i ≤ 16) × (length out ≡ 64) × 
 abbrev μ-loop : tie.MeasureT-loop
 μ-loop out₀ state initial i₀ out i = 16 - i
 
--- src/lib.rt:106:5
 loop-holds : tie.Need-loop-holds Inv-loop μ-loop
 unfolding low-bytes
 loop-holds c = (omega arith, c .before .pre, refl)
 
--- src/lib.rt:107:46
+mul-word : tie.Need-mul-word Inv-loop μ-loop
+mul-word c = omega arith
+
+array-read-word : tie.Need-array-read-word Inv-loop μ-loop
+array-read-word c = omega arith
+
 mul-wrapping-add-u32 : tie.Need-mul-wrapping-add-u32 Inv-loop μ-loop
 mul-wrapping-add-u32 c = omega arith
 
--- src/lib.rt:107:46
 array-read-wrapping-add-u32 : tie.Need-array-read-wrapping-add-u32 Inv-loop μ-loop
 array-read-wrapping-add-u32 c = omega arith
 
--- src/lib.rt:107:56
-mul-wrapping-add-u32-2 : tie.Need-mul-wrapping-add-u32-2 Inv-loop μ-loop
-mul-wrapping-add-u32-2 c = omega arith
-
--- src/lib.rt:107:56
-array-read-wrapping-add-u32-2 : tie.Need-array-read-wrapping-add-u32-2 Inv-loop μ-loop
-array-read-wrapping-add-u32-2 c = omega arith
-
--- src/lib.rt:107:13
 wrapping-add-u32-requires : tie.Need-wrapping-add-u32-requires Inv-loop μ-loop
 wrapping-add-u32-requires c κs = search needs
 
--- src/lib.rt:108:20
 mul-from : tie.Need-mul-from Inv-loop μ-loop
 mul-from c = omega arith
 
--- src/lib.rt:109:18
 add-to : tie.Need-add-to Inv-loop μ-loop
 add-to c = omega arith
 
--- src/lib.rt:110:23
 sub-put-word : tie.Need-sub-put-word Inv-loop μ-loop
 sub-put-word c = omega arith
 
--- src/lib.rt:110:23
 part-put-word-start : tie.Need-part-put-word-start Inv-loop μ-loop
 part-put-word-start c = omega arith
 
--- src/lib.rt:110:23
 part-put-word-end : tie.Need-part-put-word-end Inv-loop μ-loop
 part-put-word-end c = omega arith
 
--- src/lib.rt:110:9
 put-word-requires : tie.Need-put-word-requires Inv-loop μ-loop
 put-word-requires c κs =
     let l = c .before .before .before .loop in
     let four : 4 * l .i + 4 - 4 * l .i ≡ 4 = omega arith in
     mid-len (4 * l .i) (4 * l .i + 4) (l .out) (omega arith) ∙ four
 
--- src/lib.rt:111:9
 add-i : tie.Need-add-i Inv-loop μ-loop
 add-i c = omega arith
 
--- src/lib.rt:106:5
 loop-less : tie.Need-loop-less Inv-loop μ-loop
 loop-less c = omega arith
 
--- src/lib.rt:106:5
 loop-again : tie.Need-loop-again Inv-loop μ-loop
 loop-again c =
     let l = c .before .before .before .before .before .before .loop in
@@ -89,11 +71,9 @@ loop-again c =
     let put = c .before .before .put-word in
     (omega arith, same-len-mid (4 * l .i) (4 * l .i + 4 - 4 * l .i) (l .out) (put .last .1 .0) (put .kept .1 .0) ∙ l .inv .1, next-word (a .t1) (a .t2) (now (a .out)) (l .out) (put .last .1 .0) (l .i) _ (omega arith) (omega arith) (omega arith) (l .inv .2) (c .before .before .before .before .wrapping-add-u32 .ensures) (put .ensures))
 
--- src/lib.rt:101:1
 same-length : tie.Need-same-length Inv-loop μ-loop
 same-length c = omega arith
 
--- src/lib.rt:101:1
 returns : tie.Need-returns Inv-loop μ-loop
 returns c =
     let l = c .before .loop in
@@ -107,10 +87,10 @@ serialize-spec =
     Inv-loop
     μ-loop
     loop-holds
+    mul-word
+    array-read-word
     mul-wrapping-add-u32
     array-read-wrapping-add-u32
-    mul-wrapping-add-u32-2
-    array-read-wrapping-add-u32-2
     wrapping-add-u32-requires
     mul-from
     add-to

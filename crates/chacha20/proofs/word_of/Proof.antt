@@ -1,37 +1,28 @@
+-- `chacha20::word_of` meets its contract. The sum is the definition's. Assumes nothing.
 use borrow.Author.Needs.{needs}
 use mathlib.Core.Path.{refl}
-use Prim.Native.Nat.{ℕ}
 use Rattle.chacha20.specs.Expand.{word-at, at}
 use Rattle.chacha20.proofs.word_of.Statement.{statement}
 use Rattle.chacha20.proofs.word_of.Tie as tie
-use Rattle.chacha20.proofs.word_of.Reads as reads
-use Rattle.chacha20.proofs.word_of.Lts as lts
 
--- src/lib.rt:119:20
 mul-result : tie.Need-mul-result
 mul-result c = search needs
 
--- src/lib.rt:119:5
 add-result : tie.Need-add-result
 add-result c = search needs
 
--- src/lib.rt:119:44
 mul-result-2 : tie.Need-mul-result-2
 mul-result-2 c = search needs
 
--- src/lib.rt:119:5
 add-result-2 : tie.Need-add-result-2
 add-result-2 c = search needs
 
--- src/lib.rt:119:69
 mul-result-3 : tie.Need-mul-result-3
 mul-result-3 c = search needs
 
--- src/lib.rt:119:5
 add-result-3 : tie.Need-add-result-3
 add-result-3 c = search needs
 
--- src/lib.rt:116:1
 returns : tie.Need-returns
 unfolding word-at at
 returns c = refl
