@@ -5,3 +5,6 @@ pub mod Marks
 pub mod Parts
 pub mod Accepted
 pub mod Opening
+pub mod Dealing
+pub mod Promise
+pub mod Document03
