@@ -14,7 +14,7 @@ use Rattle.xor.specs.Xor.{xors, zeros, bytes-good}
 use Rattle.xor.proofs.Laws.{Word, and-left, and-right}
 use Rattle.grid.specs.Grid.{Board, columns, grid-rows, row-long, board-refusal, bit, column, row-of, all-words, cell, share-from, share, arrays-good, each-long, marks-of, held-rows}
 use Rattle.grid.specs.Arrays.{marked, Half-is-marked}
-use Rattle.grid.proofs.Facts.{Board-in, board-in, Facts, arrays-in, arrays-split, array-of, array-long, rows-in, words-in, grid-row-in, words-long}
+use Rattle.grid.proofs.Facts.{board-accepted, Board-in, board-in, Facts, arrays-in, arrays-split, array-of, array-long, rows-in, words-in, grid-row-in, words-long}
 use Rattle.grid.proofs.Arrays.{half-is-marked}
 use Rattle.grid.proofs.LastWord.{all-words-long, all-words-are}
 use Rattle.keys.specs.Keys.{Lent, dealing, deal-refusal, mark-bytes, held-seeds, body-from, glued, rows-from, words-from, key, rows-written, key-written, parts-share, share-by-parts}
@@ -119,8 +119,7 @@ half-marked b l i t h g inside =
     (marks-marked i (array-of b (l .arrays) g)
     ∙ half-is-marked b (eqb (0 + g) (l .point / b .wide)) (array-of b (l .arrays) g)
     (record {
-      players-least = t .board .players-least;
-      players-most = omega (arith, t .board .players-most);
+      board = board-accepted b (t .board);
       long = array-long b (l .arrays) (t .arrays-long) g inside;
       good = arrays-split (grid-rows b) 0 b (l .point) (l .arrays) (t .arrays) g inside;
     }) i h)
