@@ -1,0 +1,2 @@
+-- The promises' terms and the laws that they are made of. Assumes nothing.
+pub mod Marked
