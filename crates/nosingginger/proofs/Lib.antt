@@ -1,2 +1,5 @@
 -- The promises' terms and the laws that they are made of. Assumes nothing.
 pub mod Marked
+pub mod Putting
+pub mod OpenedKey
+pub mod DealtKeys
