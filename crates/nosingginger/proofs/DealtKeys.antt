@@ -7,8 +7,8 @@ use Prim.Native.Nat.{ℕ, zero, suc, _+_, _*_, _-_, _≤_, _<_}
 use native.Mathlib.Nat.{mul-le-mul-right}
 use native.Mathlib.Omega.{arith}
 use lib.Dec.{ltb, leb, eqb}
-use lib.ListN.{length, take, drop, length-drop}
-use lib.Seq.{take-at, drop-at, take-append-le, drop-append-le}
+use lib.ListN.{length, take, drop}
+use lib.Seq.{take-at, drop-at}
 use borrow.Author.Tests.{eq-eqb, lt-leb}
 use Rattle.xor.specs.Xor.{xors, bytes-good}
 use Rattle.xor.proofs.Laws.{and-both}
@@ -23,7 +23,7 @@ use Rattle.keys.proofs.Numbers.{header-read-back}
 use Rattle.keys.proofs.Promise.{dealt-board, dealt-player, dealt-key, dealt-word, keys-long, keys-apart, full-tables-join}
 use Rattle.nosingginger.specs.Entry.{or-else, in-front, Put-says, rule, key-rule}
 use Rattle.nosingginger.specs.JoinKeys.{head-refusal, same-board, place-refusal, places-refusal, keys-refusal, joined-table, Join-keys-says}
-use Rattle.nosingginger.proofs.Putting.{nothing-refuses, room-enough, answer-is, put}
+use Rattle.nosingginger.proofs.Putting.{nothing-refuses, room-enough, answer-is, put, part-front}
 use Rattle.nosingginger.proofs.OpenedKey.{expansion}
 
 -- an accepted dealing of bytes
@@ -65,14 +65,10 @@ module _ (b : Board) (l : Lent) (good : lent-good b l ≡ true) where
   key-length i h = dealt-word b (λ seed. rule b seed) l i good (expansion b) h .long
 
   pub key-cut : (i : ℕ) (out : List ℕ) → i < b .p → take (key-long b) (drop (i * key-long b) (in-front keys out)) ≡ dealt-of i
-  unfolding in-front Keys-apart
+  unfolding Keys-apart
   key-cut i out h =
       let fits : suc i * key-long b ≤ b .p * key-long b = mul-le-mul-right (key-long b) h in
-      let rest = drop (length keys) out in
-      let before : i * key-long b ≤ length keys = omega (arith, keys-length) in
-      let behind : key-long b ≤ length (drop (i * key-long b) keys) = rw length-drop (omega (arith, keys-length)) in
-      rw (drop-append-le (i * key-long b) keys rest before, take-append-le (key-long b) (drop (i * key-long b) keys) rest behind)
-      (keys-apart b (λ seed. rule b seed) l i good (expansion b) h)
+      part-front (i * key-long b) (key-long b) keys out (omega (arith, keys-length)) ∙ keys-apart b (λ seed. rule b seed) l i good (expansion b) h
 
   -- WHAT OPEN ALL WRITES of a dealt key is its table under the dealing's rule
 

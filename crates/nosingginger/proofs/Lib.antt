@@ -3,3 +3,5 @@ pub mod Marked
 pub mod Putting
 pub mod OpenedKey
 pub mod DealtKeys
+pub mod Calls
+pub mod Promise

@@ -101,15 +101,15 @@ module _ (key : List ℕ) where
     unfolding Table-long
     own-table-long = table-long (λ seed. key-rule key seed) key accepted good own-rule .0
 
-    own-entry : (a : ℕ) → a < squares → opened (λ seed. key-rule key seed) key a ≡ entry (head-in key .board) own-table a
+    pub own-entry : (a : ℕ) → a < squares → opened (λ seed. key-rule key seed) key a ≡ entry (head-in key .board) own-table a
     unfolding Opens-alone
     own-entry a inside = sym (opens-alone (λ seed. key-rule key seed) key a accepted good own-rule inside)
 
     -- a square's bytes in the table
-    entry-fits : (a : ℕ) → a < squares → a * width + width ≤ squares * width
+    pub entry-fits : (a : ℕ) → a < squares → a * width + width ≤ squares * width
     entry-fits a inside = let fits : suc a * width ≤ squares * width = mul-le-mul-right width inside in omega arith
 
-    own-entry-long : (a : ℕ) → a < squares → length (opened (λ seed. key-rule key seed) key a) ≡ width
+    pub own-entry-long : (a : ℕ) → a < squares → length (opened (λ seed. key-rule key seed) key a) ≡ width
     unfolding entry
     own-entry-long a inside =
         ap length (own-entry a inside)

@@ -7,7 +7,7 @@ use Prim.Native.Nat.{ℕ, zero, suc, _+_, _≤_, _<_}
 use native.Mathlib.Omega.{arith}
 use lib.Dec.{ltb, leb, eqb}
 use lib.ListN.{length, take, drop, length-append, length-drop}
-use lib.Seq.{take-at, drop-at}
+use lib.Seq.{take-at, drop-at, take-append-le, drop-append-le}
 use borrow.Author.Tests.{eqb-true, eqb-false, eq-eqb, ltb-false, le-ltb, leb-false, lt-leb}
 use Rattle.nosingginger.specs.Entry.{or-else, in-front, Put-says}
 
@@ -82,3 +82,10 @@ module _ (k : ℕ) (new old : List ℕ) (long : length new ≡ k) where
   pub length-front : k ≤ length old → length (in-front new old) ≡ length old
   unfolding in-front
   length-front room = length-append new (drop (length new) old) ∙ omega (arith, length-drop (length new) old)
+
+-- a part of what was written
+pub part-front : (from size : ℕ) (new old : List ℕ) → from + size ≤ length new → take size (drop from (in-front new old)) ≡ take size (drop from new)
+unfolding in-front
+part-front from size new old fits =
+    let rest = drop (length new) old in
+    rw (drop-append-le from new rest (omega arith)) (take-append-le size (drop from new) rest (rw length-drop (omega arith)))
