@@ -133,6 +133,7 @@ deals-open p n m w point value long keys-now d =
       accepted = λ i h.
           let part = part-is b l long (d .keys) keys-now t i h in
           record {
+            bytes = ap bytes-good part ∙ dealt-accepted b f l i (t .accepted) (expansion b) h .2;
             accepted = ap key-refusal part ∙ dealt-accepted b f l i (t .accepted) (expansion b) h .0;
             board-read = ap (λ (ks : List ℕ). head-in ks .board) part ∙ dealt-board b f l i (t .accepted) (expansion b) h;
             player-read = ap (λ (ks : List ℕ). head-in ks .player) part ∙ dealt-player b f l i (t .accepted) (expansion b) h;

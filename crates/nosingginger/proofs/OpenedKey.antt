@@ -10,6 +10,7 @@ use lib.Dec.{ltb, leb}
 use lib.ListN.{length, drop, length-drop}
 use lib.Seq.{length-take-le}
 use Rattle.xor.specs.Xor.{bytes-good}
+use Rattle.xor.proofs.Laws.{Word}
 use Rattle.chacha20.proofs.Stream.{word-expand}
 use Rattle.grid.specs.Grid.{Board, row-long}
 use Rattle.keys.specs.Keys.{key-refusal, head-in, table, opened}
@@ -97,9 +98,14 @@ module _ (key : List ℕ) where
     unfolding key-rule
     own-rule = expansion (head-in key .board)
 
-    pub own-table-long : length own-table ≡ squares * width
+    pub own-table-word : Word (squares * width) own-table
     unfolding Table-long
-    own-table-long = table-long (λ seed. key-rule key seed) key accepted good own-rule .0
+    own-table-word =
+        let word = table-long (λ seed. key-rule key seed) key accepted good own-rule in
+        record { long = word .0; good = word .1 }
+
+    pub own-table-long : length own-table ≡ squares * width
+    own-table-long = own-table-word .long
 
     pub own-entry : (a : ℕ) → a < squares → opened (λ seed. key-rule key seed) key a ≡ entry (head-in key .board) own-table a
     unfolding Opens-alone

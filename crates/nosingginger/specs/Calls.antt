@@ -32,8 +32,9 @@ pub record Dealt (p n m w point : ℕ) (value : List ℕ) (long : Answer) (keys-
 unfoldable pub key-part : Answer → (i : ℕ) → (keys : List ℕ) → List ℕ
 key-part long i keys = take (long .value) (drop (i * long .value) keys)
 
--- a key that Check key accepts, with its header numbers
+-- bytes that Check key accepts, with their header numbers
 pub record Accepted-as (p i n m w : ℕ) (key : List ℕ) : Type 0 where
+  pub bytes : bytes-good key ≡ true
   pub accepted : key-refusal key ≡ 0
   pub board-read : head-in key .board ≡ board p n m w
   pub player-read : head-in key .player ≡ i
