@@ -69,14 +69,14 @@ module _ (b : Board) (l : Lent) (long : Answer) (out keys-now : List ℕ) (d : L
   dealt-to i = key b (λ seed. rule b seed) l i
 
   -- the i-th part is player i's key
-  part-is : (i : ℕ) → i < b .p → key-part long i keys-now ≡ dealt-to i
+  part-is : (i : ℕ) → i < b .p → key-part (long .value) i keys-now ≡ dealt-to i
   unfolding key-part
   part-is i h =
       ap (λ (k : ℕ). take k (drop (i * k) keys-now)) (d .long-is)
       ∙ ap (λ (ks : List ℕ). take (key-long b) (drop (i * key-long b) ks)) (d .now) ∙ key-cut b l (d .accepted) i out h
 
   -- the table that Open all leaves of it
-  part-table : (i : ℕ) (o o-now : List ℕ) → i < b .p → Open-all-says (key-part long i keys-now) 0 o o-now →
+  part-table : (i : ℕ) (o o-now : List ℕ) → i < b .p → Open-all-says (key-part (long .value) i keys-now) 0 o o-now →
       take (b .n * b .w) o-now ≡ table (λ seed. rule b seed) (dealt-to i)
   unfolding Dealt-accepted
   part-table i o o-now h says =
@@ -89,7 +89,7 @@ module _ (b : Board) (l : Lent) (long : Answer) (out keys-now : List ℕ) (d : L
       ap (λ (xs : List ℕ). take (b .n * b .w) xs) (called .now ∙ ap (λ (xs : List ℕ). in-front xs o) own)
       ∙ take-front (b .n * b .w) (table (λ seed. rule b seed) k) o sized
 
-  part-opens : (i r : ℕ) (o o-now : List ℕ) → i < b .p → b .n * b .w ≤ length o → Open-all-says (key-part long i keys-now) r o o-now → r ≡ 0
+  part-opens : (i r : ℕ) (o o-now : List ℕ) → i < b .p → b .n * b .w ≤ length o → Open-all-says (key-part (long .value) i keys-now) r o o-now → r ≡ 0
   unfolding Dealt-accepted
   part-opens i r o o-now h room says =
       let fine = dealt-accepted b (λ seed. rule b seed) l i (d .accepted) (expansion b) h in
@@ -97,7 +97,7 @@ module _ (b : Board) (l : Lent) (long : Answer) (out keys-now : List ℕ) (d : L
       (subst⁻¹ (λ (c : Board). c .n * c .w ≤ length o) (dealt-board b (λ seed. rule b seed) l i (d .accepted) (expansion b) h) room)
       (subst (λ (ks : List ℕ). Open-all-says ks r o o-now) (part-is i h) says)
 
-  parts-join : (o o-now : ℕ → List ℕ) → ((i : ℕ) → i < b .p → Open-all-says (key-part long i keys-now) 0 (o i) (o-now i)) →
+  parts-join : (o o-now : ℕ → List ℕ) → ((i : ℕ) → i < b .p → Open-all-says (key-part (long .value) i keys-now) 0 (o i) (o-now i)) →
       over (b .p) 0 (b .n * b .w) (λ i. take (b .n * b .w) (o-now i)) ≡ point-table b (l .point) (l .value)
   parts-join o o-now h =
       over-same (b .p) 0 (b .n * b .w) (λ i. take (b .n * b .w) (o-now i)) (λ i. table (λ seed. rule b seed) (dealt-to i))
