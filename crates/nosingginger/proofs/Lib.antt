@@ -1,0 +1,3 @@
+-- The laws that the operations' proofs cite. Assumes nothing.
+pub mod Answering
+pub mod Joining
