@@ -54,6 +54,11 @@ pub in-front-whole : (new old : List ℕ) → length new ≡ length old → in-f
 unfolding in-front
 in-front-whole new old e = rw (e, drop-length old, append-nil)
 
+-- they fill its first part
+pub in-front-part : (new last old : List ℕ) (k : ℕ) → length last ≡ k → last ≡ new → last ++ drop k old ≡ in-front new old
+unfolding in-front
+in-front-part new last old k l e = rw (← e, l)
+
 -- EXPAND
 
 module _ (seed o : List ℕ) where

@@ -4,10 +4,11 @@ use mathlib.Core.Path.{_≡_, refl, sym, ap, _∙_}
 use mathlib.Core.Bool.{Bool, true, false, _&&_, not, cond}
 use mathlib.Core.List.{List, [], _∷_, _++_}
 use Prim.Native.Nat.{ℕ, zero, suc, _+_, _*_, _-_, _≤_, _<_}
+use native.Mathlib.Nat.{mul-le-mul-right}
 use native.Mathlib.Omega.{arith}
 use borrow.Author.Tests.{eq-eqb, ne-eqb, le-ltb, lt-ltb, eqb-true, ltb-false, not-false}
 use lib.Dec.{eqb, leb, ltb}
-use lib.ListN.{length, take, drop, length-drop}
+use lib.ListN.{length, take, drop, replicate, length-drop}
 use lib.Seq.{drop-drop, drop-length, length-take-le}
 use Rattle.xor.specs.Xor.{xors, zeros}
 use Rattle.xor.proofs.Laws.{xors-comm, length-xors, word-zeros}
@@ -69,10 +70,31 @@ pub shares-step : (w k : ℕ) (bs : List ℕ) → joined-shares (suc k) w bs ≡
 unfolding joined-shares
 shares-step w k bs = refl
 
+-- a part before `end` stands among the parts
+pub inside : {p left w end long size : ℕ} → size ≡ w → 0 < left → left ≤ p → end ≡ left * w → long ≡ p * w → (size ≤ end) × (end ≤ long)
+inside {w = w} same pos le e l = (omega (arith, mul-le-mul-right w pos), omega (arith, mul-le-mul-right w le))
+
+-- it is whole
+pub part-whole : {size w : ℕ} (end : ℕ) (bs : List ℕ) → size ≡ w → size ≤ end → end ≤ length bs → size ≡ length (take (end - (end - w)) (drop (end - w) bs))
+part-whole {w = w} end bs same h k =
+    let wide : end - (end - w) ≡ w = omega arith in
+    rw wide (same ∙ sym (length-take-le w (drop (end - w) bs) (rw length-drop (omega arith))))
+
 -- no share is joined yet
-pub joined-none : (p w : ℕ) (bs : List ℕ) → zeros w ≡ joined-shares (p - p) w bs
-unfolding joined-shares
-joined-none p w bs = let none : p - p ≡ 0 = omega arith in rw none
+pub joined-none : (p : ℕ) (bs out old : List ℕ) → out ≡ replicate (length old) 0 → length out ≡ length old → out ≡ joined-shares (p - p) (length out) bs
+unfolding joined-shares zeros
+joined-none p bs out old e l =
+    let none : p - p ≡ 0 = omega arith in
+    rw (none, l) e
+
+-- all are
+pub joined-all : (p left w end n : ℕ) (bs out : List ℕ) → left ≤ 0 → end ≡ left * w → w ≡ n → out ≡ joined-shares (p - left) w (drop end bs)
+    → out ≡ joined-shares p n bs
+joined-all p left w end n bs out h e same all =
+    let none : left ≡ 0 = omega arith in
+    let first : end ≡ 0 = omega (arith, rw none at e) in
+    let whole : p - 0 ≡ p = omega arith in
+    rw (none, first, same, whole) at all
 
 -- one share more, the one before
 pub share-more : (p left w start end : ℕ) (bs out : List ℕ) → 0 < left → left ≤ p → end ≡ left * w → start ≡ end - w

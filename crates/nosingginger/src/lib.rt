@@ -3,6 +3,7 @@
 ghost use Rattle.nosingginger.specs.Entry.{Long-says, Join-says, Expand-says, Width-says, Sensor-says};
 ghost use mathlib.Core.Path.{_≡_};
 pub mod refusals;
+mod places;
 mod shares;
 pub use keys::check::KeyCheck;
 pub use keys::check::check_key;
