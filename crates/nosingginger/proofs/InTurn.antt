@@ -4,6 +4,7 @@ use mathlib.Core.Path.{_≡_, refl, sym, ap, _∙_, subst}
 use mathlib.Core.Bool.{Bool, true, false, _&&_, not, cond}
 use mathlib.Core.List.{List}
 use Prim.Native.Nat.{ℕ, zero, suc, _+_, _*_, _-_, _≤_, _<_}
+use native.Mathlib.Nat.{mul-le-mul-right}
 use native.Mathlib.Numerals.{add-one}
 use native.Mathlib.Omega.{arith}
 use borrow.Author.Tests.{eq-eqb, ne-eqb, le-leb, lt-leb, le-ltb, lt-ltb, eqb-true, eqb-false, leb-false, ltb-false, not-true, not-false}
@@ -90,6 +91,12 @@ module _ (b c : Board) where
       board-by (eqb-true (b .p) (c .p) (and-left p n left)) (eqb-true (b .n) (c .n) (and-right p n left)) (eqb-true (b .wide) (c .wide) (and-left m w right))
       (eqb-true (b .w) (c .w) (and-right m w right))
 
+pub both-same : (s t r : Bool) → r ≡ s → r ≡ true → t ≡ (s && t)
+both-same s t r e h = let yes : s ≡ true = sym e ∙ h in rw yes
+
+pub first-other : (s t r : Bool) → r ≡ s → r ≡ false → false ≡ (s && t)
+first-other s t r e h = let no : s ≡ false = sym e ∙ h in rw no
+
 -- ONE KEY AT ITS PLACE
 
 module _ (b : Board) (i : ℕ) (ks : List ℕ) where
@@ -162,6 +169,10 @@ module _ {p place at : ℕ} (b : Board) (bs : List ℕ) (before : Passed p b bs 
         here = rw next (omega (arith, before .here, k));
         rest = rw next (sym (next-fits (place-refusal b place (take (key-long b) (drop at bs))) _ (sym (key-part r e) ∙ z)) ∙ sym turn);
       }
+
+-- the next key stands among the keys
+pub key-inside : {p place at long : ℕ} (b : Board) (bs : List ℕ) → Passed p b bs place at → place < p → long ≡ key-long b → length bs ≡ p * key-long b → at + long ≤ length bs
+key-inside b bs before more k whole = omega (arith, before .here, mul-le-mul-right (key-long b) more)
 
 pub all-passed : {p place at : ℕ} (b : Board) (bs : List ℕ) → Passed p b bs place at → p ≤ place → 0 ≡ places-refusal p 0 b bs
 unfolding places-refusal
