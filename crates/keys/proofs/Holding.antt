@@ -1,8 +1,8 @@
 -- What an accepted key holds: where a grid row begins, and that a marked column's 32 bytes stand inside it.
 -- Assumes nothing.
-use mathlib.Core.Path.{_≡_, refl, sym, ap, subst, _∙_}
+use mathlib.Core.Path.{_≡_, refl, sym, ap, _∙_}
 use mathlib.Core.Bool.{Bool, true, false, _&&_, not, cond}
-use mathlib.Core.List.{List, [], _∷_, _++_}
+use mathlib.Core.List.{List, [], _∷_}
 use Prim.Native.Nat.{ℕ, zero, suc, _+_, _*_, _-_, _/_, _%_, _≤_, _<_}
 use native.Mathlib.Nat.{add-zero, zero-add, add-assoc, mul-le-mul-right}
 use native.Mathlib.Omega.{arith}
@@ -11,8 +11,8 @@ use lib.Dec.{eqb, ltb}
 use lib.ListN.{length, getD, take, drop}
 use lib.Seq.{drop-at, drop-drop}
 use Rattle.xor.specs.Xor.{bytes-good}
-use Rattle.xor.proofs.Laws.{and-left, and-right, and-both}
-use Rattle.grid.specs.Grid.{Board, board, board-refusal, columns, grid-rows, row-long, bit}
+use Rattle.xor.proofs.Laws.{and-left, and-right}
+use Rattle.grid.specs.Grid.{Board, board, board-refusal, columns, grid-rows, bit}
 use Rattle.grid.specs.Code.{board-of}
 use Rattle.grid.proofs.Facts.{board-accepted, columns-pos}
 use Rattle.keys.specs.Keys.{header, mark-bytes, count-marks, stride, head-in, key-refusal, row-part}

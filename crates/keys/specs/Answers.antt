@@ -1,14 +1,12 @@
 -- The answers of the readers and of the check of a key: what each case of an enum says, in document 03's words.
 -- Assumes nothing: these are definitions.
-use mathlib.Core.Path.{_≡_}
-use mathlib.Core.Bool.{Bool, true, false, cond}
+use mathlib.Core.Bool.{cond}
 use mathlib.Core.List.{List, [], _∷_}
 use Prim.Native.Nat.{ℕ, _-_}
 use lib.Dec.{eqb}
 use lib.ListN.{length, drop}
 use Rattle.grid.specs.Code.{board-of}
 use Rattle.keys.specs.Keys.{Got, number-in, header, Head, head-in, key-refusal}
-use Rattle.keys.specs.declared.reader.Reader.{Reader}
 use Rattle.keys.specs.declared.reader.Number.{Number}
 use Rattle.keys.specs.declared.reader.Header.{Header}
 use Rattle.keys.specs.declared.reader.Heading.{Heading}
