@@ -4,13 +4,14 @@
 -- Each statement is a type; proofs/Calls.antt has a term of it under its name in small letters. Assumes nothing.
 use mathlib.Core.Path.{_≡_}
 use mathlib.Core.Bool.{true}
-use mathlib.Core.List.{List}
+use mathlib.Core.List.{List, [], _∷_}
 use Prim.Native.Nat.{ℕ, _*_, _≤_, _<_}
 use lib.ListN.{length, take, drop}
 use Rattle.xor.specs.Xor.{bytes-good}
 use Rattle.grid.specs.Grid.{board}
 use Rattle.grid.specs.Joining.{over}
 use Rattle.keys.specs.Keys.{key-refusal, head-in}
+use Rattle.keys.specs.Answers.{key-checked}
 use Rattle.keys.specs.Promise.{entry, point-table}
 use Rattle.nosingginger.specs.Entry.{Deal-says, Long-says, Open-one-says, Open-all-says, Join-says, Expand-says, in-front}
 use Rattle.nosingginger.specs.JoinKeys.{Join-keys-says}
@@ -32,9 +33,10 @@ pub record Dealt (p n m w point : ℕ) (value : List ℕ) (long : Answer) (keys-
 unfoldable pub key-part : (K i : ℕ) → (keys : List ℕ) → List ℕ
 key-part K i keys = take K (drop (i * K) keys)
 
--- bytes that Check key accepts, with their header numbers
+-- bytes that Check key accepts: it answers the header numbers p, i, N, μ and w
 pub record Accepted-as (p i n m w : ℕ) (key : List ℕ) : Type 0 where
   pub bytes : bytes-good key ≡ true
+  pub checked : key-checked key ≡ record { refusal = 0; numbers = p ∷ i ∷ n ∷ m ∷ w ∷ [] }
   pub accepted : key-refusal key ≡ 0
   pub board-read : head-in key .board ≡ board p n m w
   pub player-read : head-in key .player ≡ i
