@@ -1,15 +1,15 @@
 -- The promises of specs/Calls.antt, each under its statement's name in small letters, from the contracts alone: what a call leaves with the
 -- answer 0 is a definition's bytes, and of those the promises of the crate keys hold under expansion. Assumes nothing.
-use mathlib.Core.Path.{_≡_, refl, sym, ap, _∙_, subst, subst⁻¹}
+use mathlib.Core.Path.{_≡_, sym, ap, _∙_, subst, subst⁻¹}
 use mathlib.Core.Bool.{true, _&&_, not, cond}
-use mathlib.Core.List.{List}
+use mathlib.Core.List.{List, [], _∷_}
 use Prim.Native.Nat.{ℕ, zero, suc, _+_, _*_, _≤_, _<_}
 use native.Mathlib.Omega.{arith}
 use lib.Dec.{ltb, leb, eqb}
 use lib.ListN.{length, take, drop, length-drop}
-use lib.Seq.{take-append-le, drop-append-le, length-take-le}
+use lib.Seq.{length-take-le}
 use borrow.Author.Tests.{eqb-true, eq-eqb, not-false}
-use Rattle.xor.specs.Xor.{xors, zeros, bytes-good}
+use Rattle.xor.specs.Xor.{bytes-good}
 use Rattle.xor.proofs.Laws.{length-xors, word-zeros}
 use Rattle.grid.specs.Grid.{Board, board, board-refusal}
 use Rattle.grid.specs.Joining.{over}
@@ -17,14 +17,16 @@ use Rattle.grid.proofs.Facts.{board-accepted}
 use Rattle.grid.proofs.Sums.{over-same}
 use Rattle.keys.specs.Keys.{Lent, key, keys-from, key-long, key-refusal, deal-refusal, head-in, table}
 use Rattle.keys.specs.Promise.{lent-good, entry, point-table, Dealt-accepted}
+use Rattle.keys.specs.Answers.{head-numbers, key-checked}
 use Rattle.keys.proofs.Accepted.{passed}
 use Rattle.keys.proofs.Dealing.{lent-in}
 use Rattle.keys.proofs.Promise.{dealt-accepted, dealt-board, dealt-player}
 use Rattle.nosingginger.specs.Entry.{or-else, in-front, says, lent, rule, Deal-says, Long-says, Open-one-says, Open-all-says, joined-shares, shares-refusal, Join-says, Expand-says}
 use Rattle.nosingginger.specs.JoinKeys.{Join-keys-says}
-use Rattle.nosingginger.specs.Calls.{Dealt, key-part, Accepted-as, Keys-good, Deals-open, Accepted-opens, Opens-agree, Untouched, Refused-leaves, Past-kept, Answered-keeps}
+use Rattle.nosingginger.specs.Calls.{Dealt, key-part, Deals-open, Accepted-opens, Opens-agree, Untouched, Refused-leaves, Past-kept, Answered-keeps}
 use Rattle.nosingginger.specs.declared.Answer.{Answer}
-use Rattle.nosingginger.proofs.Putting.{neither-refuses, room-there, answer-is, put, untouched, take-front, drop-front, length-front, part-front}
+use Rattle.nosingginger.proofs.InTurn.{neither}
+use Rattle.nosingginger.proofs.Putting.{room-there, answer-is, put, untouched, take-front, drop-front, length-front, part-front}
 use Rattle.nosingginger.proofs.OpenedKey.{expansion, all-answered, one-answered, all-opened, one-opened, own-table-long, own-entry, own-entry-long, entry-fits}
 use Rattle.nosingginger.proofs.DealtKeys.{lent-accepted, keys-length, key-cut, opens-as, tables-over, keys-joined}
 
@@ -53,7 +55,7 @@ left p n m w point value long keys-now d =
     let keys = keys-from p 0 b (λ seed. rule b seed) l in
     let last : ℕ = cond (ltb (length (d .keys)) (p * key-long b)) 9 0 in
     let none : or-else (deal-refusal b l) last ≡ 0 = sym (answer-is _ keys 0 (d .keys) keys-now (d .deal-says)) in
-    let both = neither-refuses (deal-refusal b l) last none in
+    let both = neither (deal-refusal b l) last none in
     let good = lent-accepted b l (both .0) (d .value-bytes) (d .seeds-bytes) (d .words-bytes) in
     let fine : board-refusal b ≡ 0 = board-accepted b (lent-in b l good .board) in
     record {
@@ -69,14 +71,14 @@ module _ (b : Board) (l : Lent) (long : Answer) (out keys-now : List ℕ) (d : L
   dealt-to i = key b (λ seed. rule b seed) l i
 
   -- the i-th part is player i's key
-  part-is : (i : ℕ) → i < b .p → key-part long i keys-now ≡ dealt-to i
+  part-is : (i : ℕ) → i < b .p → key-part (long .value) i keys-now ≡ dealt-to i
   unfolding key-part
   part-is i h =
       ap (λ (k : ℕ). take k (drop (i * k) keys-now)) (d .long-is)
       ∙ ap (λ (ks : List ℕ). take (key-long b) (drop (i * key-long b) ks)) (d .now) ∙ key-cut b l (d .accepted) i out h
 
   -- the table that Open all leaves of it
-  part-table : (i : ℕ) (o o-now : List ℕ) → i < b .p → Open-all-says (key-part long i keys-now) 0 o o-now →
+  part-table : (i : ℕ) (o o-now : List ℕ) → i < b .p → Open-all-says (key-part (long .value) i keys-now) 0 o o-now →
       take (b .n * b .w) o-now ≡ table (λ seed. rule b seed) (dealt-to i)
   unfolding Dealt-accepted
   part-table i o o-now h says =
@@ -89,7 +91,7 @@ module _ (b : Board) (l : Lent) (long : Answer) (out keys-now : List ℕ) (d : L
       ap (λ (xs : List ℕ). take (b .n * b .w) xs) (called .now ∙ ap (λ (xs : List ℕ). in-front xs o) own)
       ∙ take-front (b .n * b .w) (table (λ seed. rule b seed) k) o sized
 
-  part-opens : (i r : ℕ) (o o-now : List ℕ) → i < b .p → b .n * b .w ≤ length o → Open-all-says (key-part long i keys-now) r o o-now → r ≡ 0
+  part-opens : (i r : ℕ) (o o-now : List ℕ) → i < b .p → b .n * b .w ≤ length o → Open-all-says (key-part (long .value) i keys-now) r o o-now → r ≡ 0
   unfolding Dealt-accepted
   part-opens i r o o-now h room says =
       let fine = dealt-accepted b (λ seed. rule b seed) l i (d .accepted) (expansion b) h in
@@ -97,7 +99,7 @@ module _ (b : Board) (l : Lent) (long : Answer) (out keys-now : List ℕ) (d : L
       (subst⁻¹ (λ (c : Board). c .n * c .w ≤ length o) (dealt-board b (λ seed. rule b seed) l i (d .accepted) (expansion b) h) room)
       (subst (λ (ks : List ℕ). Open-all-says ks r o o-now) (part-is i h) says)
 
-  parts-join : (o o-now : ℕ → List ℕ) → ((i : ℕ) → i < b .p → Open-all-says (key-part long i keys-now) 0 (o i) (o-now i)) →
+  parts-join : (o o-now : ℕ → List ℕ) → ((i : ℕ) → i < b .p → Open-all-says (key-part (long .value) i keys-now) 0 (o i) (o-now i)) →
       over (b .p) 0 (b .n * b .w) (λ i. take (b .n * b .w) (o-now i)) ≡ point-table b (l .point) (l .value)
   parts-join o o-now h =
       over-same (b .p) 0 (b .n * b .w) (λ i. take (b .n * b .w) (o-now i)) (λ i. table (λ seed. rule b seed) (dealt-to i))
@@ -119,6 +121,12 @@ module _ (b : Board) (l : Lent) (long : Answer) (out keys-now : List ℕ) (d : L
       subst⁻¹ (λ (k : ℕ). Past-kept (b .p * k) out keys-now) (d .long-is)
       (past (b .p * key-long b) (keys-from (b .p) 0 b (λ seed. rule b seed) l) out keys-now (keys-length b l (d .accepted)) (d .room) (d .now))
 
+-- what Check key says of an accepted key
+checked-of : (p i n m w : ℕ) (key : List ℕ) → key-refusal key ≡ 0 → head-in key .board ≡ board p n m w → head-in key .player ≡ i →
+    key-checked key ≡ record { refusal = 0; numbers = p ∷ i ∷ n ∷ m ∷ w ∷ [] }
+unfolding key-checked head-numbers board
+checked-of p i n m w key accepted board-is player-is = rw (accepted, board-is, player-is)
+
 -- THE THIRD DEMAND, OF THE CALLS
 
 pub deals-open : Deals-open
@@ -132,11 +140,16 @@ deals-open p n m w point value long keys-now d =
       length-given = t .given;
       accepted = λ i h.
           let part = part-is b l long (d .keys) keys-now t i h in
+          let fine = dealt-accepted b f l i (t .accepted) (expansion b) h in
+          let accepted = ap key-refusal part ∙ fine .0 in
+          let board-is = ap (λ (ks : List ℕ). head-in ks .board) part ∙ dealt-board b f l i (t .accepted) (expansion b) h in
+          let player-is = ap (λ (ks : List ℕ). head-in ks .player) part ∙ dealt-player b f l i (t .accepted) (expansion b) h in
           record {
-            bytes = ap bytes-good part ∙ dealt-accepted b f l i (t .accepted) (expansion b) h .2;
-            accepted = ap key-refusal part ∙ dealt-accepted b f l i (t .accepted) (expansion b) h .0;
-            board-read = ap (λ (ks : List ℕ). head-in ks .board) part ∙ dealt-board b f l i (t .accepted) (expansion b) h;
-            player-read = ap (λ (ks : List ℕ). head-in ks .player) part ∙ dealt-player b f l i (t .accepted) (expansion b) h;
+            bytes = ap bytes-good part ∙ fine .2;
+            checked = checked-of p i n m w (key-part (long .value) i keys-now) accepted board-is player-is;
+            accepted = accepted;
+            board-read = board-is;
+            player-read = player-is;
           };
       opens = part-opens b l long (d .keys) keys-now t;
       joins = parts-join b l long (d .keys) keys-now t;

@@ -1,28 +1,29 @@
 -- The keys of a deal, from Deal's contract alone: what Deal leaves where it answers 0 is the keys of an accepted dealing under expansion;
 -- each is cut out again by its place, and Join keys accepts them all and joins their tables. Assumes nothing.
 use mathlib.Core.Path.{_≡_, refl, sym, ap, _∙_, subst, subst⁻¹}
-use mathlib.Core.Bool.{Bool, true, false, _&&_, not, cond}
+use mathlib.Core.Bool.{true, _&&_, not, cond}
 use mathlib.Core.List.{List, _++_, append-assoc}
 use Prim.Native.Nat.{ℕ, zero, suc, _+_, _*_, _-_, _≤_, _<_}
 use native.Mathlib.Nat.{mul-le-mul-right}
 use native.Mathlib.Omega.{arith}
-use lib.Dec.{ltb, leb, eqb}
+use lib.Dec.{ltb, eqb}
 use lib.ListN.{length, take, drop}
 use lib.Seq.{take-at, drop-at}
-use borrow.Author.Tests.{eq-eqb, lt-leb}
-use Rattle.xor.specs.Xor.{xors, bytes-good}
+use borrow.Author.Tests.{eq-eqb}
+use Rattle.xor.specs.Xor.{bytes-good}
 use Rattle.xor.proofs.Laws.{and-both}
-use Rattle.grid.specs.Grid.{Board, board-refusal, grid-rows, all-words}
+use Rattle.grid.specs.Grid.{Board, grid-rows, all-words}
 use Rattle.grid.specs.Joining.{over}
 use Rattle.grid.proofs.Facts.{Board-in, board-accepted}
-use Rattle.keys.specs.Keys.{Lent, Head, key, keys-from, key-long, key-refusal, deal-refusal, head-in, header, body-from, glued, dealing, marks-good, table}
-use Rattle.keys.specs.Promise.{Rule-good, lent-good, point-table, Keys-long, Keys-apart, Full-tables-join}
+use Rattle.keys.specs.Keys.{Lent, Head, key, keys-from, key-long, deal-refusal, head-in, header, body-from, glued, dealing, marks-good, table}
+use Rattle.keys.specs.Promise.{lent-good, point-table, Keys-long, Keys-apart, Full-tables-join}
 use Rattle.keys.proofs.Accepted.{pass}
 use Rattle.keys.proofs.Dealing.{Lent-in, lent-in}
 use Rattle.keys.proofs.Numbers.{header-read-back}
 use Rattle.keys.proofs.Promise.{dealt-board, dealt-player, dealt-key, dealt-word, keys-long, keys-apart, full-tables-join}
-use Rattle.nosingginger.specs.Entry.{or-else, in-front, Put-says, rule, key-rule}
+use Rattle.nosingginger.specs.Entry.{or-else, in-front, rule, key-rule}
 use Rattle.nosingginger.specs.JoinKeys.{head-refusal, same-board, place-refusal, places-refusal, keys-refusal, joined-table, Join-keys-says}
+use Rattle.nosingginger.proofs.InTurn.{numbers-none}
 use Rattle.nosingginger.proofs.Putting.{nothing-refuses, room-enough, answer-is, put, part-front}
 use Rattle.nosingginger.proofs.OpenedKey.{expansion}
 
@@ -37,9 +38,7 @@ lent-accepted b l accepted value seeds words =
 head-fine : (h : Head) → h .good ≡ true → Board-in (h .board) → h .player < h .board .p → head-refusal h ≡ 0
 unfolding head-refusal
 head-fine h good board player =
-    let b = h .board in
-    pass (not (h .good)) 10 _ (ap not good)
-    (pass (not (eqb (board-refusal b) 0)) (board-refusal b) _ (ap not (eq-eqb (board-refusal b) 0 (board-accepted b board))) (rw (lt-leb (b .p) (h .player) player)))
+    pass (not (h .good)) 10 _ (ap not good) (sym (numbers-none (h .board) (h .player) (board-accepted (h .board) board) player))
 
 same-itself : (b : Board) → same-board b b ≡ true
 unfolding same-board

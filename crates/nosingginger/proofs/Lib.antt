@@ -1,4 +1,8 @@
--- The promises' terms and the laws that they are made of. Assumes nothing.
+-- The laws that the operations' proofs cite, and the promises' terms with the laws that they are made of. Assumes nothing.
+pub mod Answering
+pub mod Joining
+pub mod Sizes
+pub mod InTurn
 pub mod Marked
 pub mod Putting
 pub mod OpenedKey

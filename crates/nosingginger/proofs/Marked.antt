@@ -1,5 +1,5 @@
 -- The marked deals of document 01, computed by the checker: one test over the whole table. Assumes nothing.
-use mathlib.Core.Path.{_≡_, refl}
+use mathlib.Core.Path.{refl}
 use Rattle.xor.specs.Xor.{xor-from, xors, zeros, bytes-good}
 use Rattle.grid.specs.Grid.{board, columns, grid-rows, row-long, board-refusal, bit, column, row-of, piece, xor-rows, xor-all, last-word, all-words, cell, share-from, share, ones, is-odd, same-parity, member, array-good, arrays-good, each-long, dealing-good}
 use Rattle.grid.specs.Width.{width, width-from}

@@ -17,7 +17,8 @@ use Rattle.keys.specs.Keys.{key-refusal, head-in, table, opened}
 use Rattle.keys.specs.Promise.{Rule-good, entry, Table-long, Opens-alone}
 use Rattle.keys.proofs.Promise.{table-long, opens-alone}
 use Rattle.nosingginger.specs.Entry.{or-else, in-front, rule, key-rule, Open-one-says, Open-all-says}
-use Rattle.nosingginger.proofs.Putting.{neither-refuses, nothing-refuses, room-there, room-enough, square-there, square-in, answer-is, put}
+use Rattle.nosingginger.proofs.InTurn.{neither}
+use Rattle.nosingginger.proofs.Putting.{nothing-refuses, room-there, room-enough, square-there, square-in, answer-is, put}
 
 -- EXPANSION IS A ROW RULE
 
@@ -64,7 +65,7 @@ module _ (key : List ℕ) where
   all-opened out out-now h =
       let last : ℕ = cond (ltb (length out) (squares * width)) 9 0 in
       let none : or-else (key-refusal key) last ≡ 0 = sym (answer-is _ own-table 0 out out-now h) in
-      let both = neither-refuses (key-refusal key) last none in
+      let both = neither (key-refusal key) last none in
       record {
         accepted = both .0;
         room = room-there (length out) (squares * width) (both .1);
@@ -84,7 +85,7 @@ module _ (key : List ℕ) where
       let last : ℕ = cond (ltb (length out) width) 9 0 in
       let written = opened (λ seed. key-rule key seed) key a in
       let none : or-else (key-refusal key) (cond (leb squares a) 14 last) ≡ 0 = sym (answer-is _ written 0 out out-now h) in
-      let both = neither-refuses (key-refusal key) (cond (leb squares a) 14 last) none in
+      let both = neither (key-refusal key) (cond (leb squares a) 14 last) none in
       let later = square-there squares a last (both .1) in
       record {
         accepted = both .0;

@@ -1,30 +1,22 @@
 -- What follows from a contract of the shape `Put-says`, whatever the operation: an answer of 0 means that nothing refused, a refusal that
 -- nothing was written, and what was written stands in front of what was there. Assumes nothing.
-use mathlib.Core.Path.{_≡_, refl, sym, ap, _∙_}
+use mathlib.Core.Path.{_≡_, refl, ap, _∙_}
 use mathlib.Core.Bool.{Bool, true, false, cond}
-use mathlib.Core.List.{List, _++_}
+use mathlib.Core.List.{List}
 use Prim.Native.Nat.{ℕ, zero, suc, _+_, _≤_, _<_}
 use native.Mathlib.Omega.{arith}
-use lib.Dec.{ltb, leb, eqb}
+use lib.Dec.{ltb, leb}
 use lib.ListN.{length, take, drop, length-append, length-drop}
 use lib.Seq.{take-at, drop-at, take-append-le, drop-append-le}
-use borrow.Author.Tests.{eqb-true, eqb-false, eq-eqb, ltb-false, le-ltb, leb-false, lt-leb}
+use borrow.Author.Tests.{ltb-false, le-ltb, leb-false, lt-leb}
 use Rattle.nosingginger.specs.Entry.{or-else, in-front, Put-says}
+use Rattle.nosingginger.proofs.Answering.{next-fits}
 
 -- THE CHAIN OF NUMBERS
 
--- where nothing refuses, neither of two does
-pub neither-refuses : (a b : ℕ) → or-else a b ≡ 0 → (a ≡ 0) × (b ≡ 0)
-unfolding or-else
-neither-refuses a b h = go (eqb a 0) refl h
-  where
-    go : (t : Bool) → eqb a 0 ≡ t → cond t b a ≡ 0 → (a ≡ 0) × (b ≡ 0)
-    go true e h = (eqb-true a 0 e, h)
-    go false e h = absurd (eqb-false a 0 e h)
-
+-- two that do not refuse
 pub nothing-refuses : (a b : ℕ) → a ≡ 0 → b ≡ 0 → or-else a b ≡ 0
-unfolding or-else
-nothing-refuses a b h k = rw (eq-eqb a 0 h) k
+nothing-refuses a b h k = next-fits a b h ∙ k
 
 -- 9 is not given where there is room, and only there
 pub room-there : (room named : ℕ) → _≡_ {A = ℕ} (cond (ltb room named) 9 0) 0 → named ≤ room

@@ -4,13 +4,14 @@
 -- Each statement is a type; proofs/Calls.antt has a term of it under its name in small letters. Assumes nothing.
 use mathlib.Core.Path.{_≡_}
 use mathlib.Core.Bool.{true}
-use mathlib.Core.List.{List}
+use mathlib.Core.List.{List, [], _∷_}
 use Prim.Native.Nat.{ℕ, _*_, _≤_, _<_}
 use lib.ListN.{length, take, drop}
 use Rattle.xor.specs.Xor.{bytes-good}
 use Rattle.grid.specs.Grid.{board}
 use Rattle.grid.specs.Joining.{over}
 use Rattle.keys.specs.Keys.{key-refusal, head-in}
+use Rattle.keys.specs.Answers.{key-checked}
 use Rattle.keys.specs.Promise.{entry, point-table}
 use Rattle.nosingginger.specs.Entry.{Deal-says, Long-says, Open-one-says, Open-all-says, Join-says, Expand-says, in-front}
 use Rattle.nosingginger.specs.JoinKeys.{Join-keys-says}
@@ -28,13 +29,14 @@ pub record Dealt (p n m w point : ℕ) (value : List ℕ) (long : Answer) (keys-
   pub long-says : Long-says p n m w long
   pub deal-says : Deal-says p n m w point value arrays seeds words 0 keys keys-now
 
--- "Deal's p × K bytes, cut after every K", with K as Key length gave it: the i-th part
-unfoldable pub key-part : Answer → (i : ℕ) → (keys : List ℕ) → List ℕ
-key-part long i keys = take (long .value) (drop (i * long .value) keys)
+-- "Deal's p × K bytes, cut after every K": the i-th part
+unfoldable pub key-part : (K i : ℕ) → (keys : List ℕ) → List ℕ
+key-part K i keys = take K (drop (i * K) keys)
 
--- bytes that Check key accepts, with their header numbers
+-- bytes that Check key accepts: it answers the header numbers p, i, N, μ and w
 pub record Accepted-as (p i n m w : ℕ) (key : List ℕ) : Type 0 where
   pub bytes : bytes-good key ≡ true
+  pub checked : key-checked key ≡ record { refusal = 0; numbers = p ∷ i ∷ n ∷ m ∷ w ∷ [] }
   pub accepted : key-refusal key ≡ 0
   pub board-read : head-in key .board ≡ board p n m w
   pub player-read : head-in key .player ≡ i
@@ -44,11 +46,11 @@ pub record Keys-good (p n m w point : ℕ) (value : List ℕ) (long : Answer) (k
   -- Key length answers 0 too
   pub length-given : long .refusal ≡ 0
   -- each part is accepted by Check key, and is the key of its place
-  pub accepted : (i : ℕ) → i < p → Accepted-as p i n m w (key-part long i keys-now)
+  pub accepted : (i : ℕ) → i < p → Accepted-as p i n m w (key-part (long .value) i keys-now)
   -- "each key given to Open all", "where 9 doesn't refuse", is answered by 0
-  pub opens : (i r : ℕ) (out out-now : List ℕ) → i < p → n * w ≤ length out → Open-all-says (key-part long i keys-now) r out out-now → r ≡ 0
+  pub opens : (i r : ℕ) (out out-now : List ℕ) → i < p → n * w ≤ length out → Open-all-says (key-part (long .value) i keys-now) r out out-now → r ≡ 0
   -- and the p tables that these calls leave XOR to the table with the value on the point and zeros on every other square
-  pub joins : (out out-now : ℕ → List ℕ) → ((i : ℕ) → i < p → Open-all-says (key-part long i keys-now) 0 (out i) (out-now i)) →
+  pub joins : (out out-now : ℕ → List ℕ) → ((i : ℕ) → i < p → Open-all-says (key-part (long .value) i keys-now) 0 (out i) (out-now i)) →
       over p 0 (n * w) (λ i. take (n * w) (out-now i)) ≡ point-table (board p n m w) point value
   -- Join keys of all p keys in one slice, where 9 doesn't refuse, answers 0 and writes that table
   pub joined : (r : ℕ) (out out-now : List ℕ) → n * w ≤ length out → Join-keys-says (take (p * long .value) keys-now) r out out-now →

@@ -1,7 +1,6 @@
 -- THE PROMISES, whole and in one place. The record `Promises` has one field for each; its type is the statement, written down beside the
 -- definitions that it speaks of, and proofs/Promise.antt has the one term of the record. All hold for every number of players, every number
 -- of positions, every grid width and every value width at once. Quotations are document 01's. Assumes nothing.
-use Prim.Native.Nat.{ℕ}
 use Rattle.grid.specs.Grid.{Board}
 unfoldable pub use Rattle.grid.specs.Arrays.{Each-column-once, Half-is-marked, Half-of-each-row, One-row-unheld}
 unfoldable pub use Rattle.grid.specs.Joining.{Shares-join, Words-join, Last-word-completes, Piece-cells}

@@ -3,7 +3,7 @@
 use mathlib.Core.Path.{_≡_, refl, sym, ap, _∙_, subst}
 use mathlib.Core.Bool.{Bool, true, false, cond}
 use mathlib.Core.List.{List, _++_, append-nil}
-use Prim.Native.Nat.{ℕ, zero, suc, _+_, _*_, _-_, _≤_, _<_}
+use Prim.Native.Nat.{ℕ, _+_, _*_, _-_, _≤_, _<_}
 use native.Mathlib.Nat.{mul-le-mul-left, mul-le-mul-right}
 use native.Mathlib.Numerals.{add-one}
 use native.Mathlib.Omega.{arith}
@@ -21,8 +21,10 @@ use Rattle.keys.specs.Promise.{point-table}
 use Rattle.nosingginger.specs.Entry.{or-else, in-front, Put-says, says, lent, rule, key-rule, Deal-says, Long-says, Open-one-says, Open-all-says}
 use Rattle.nosingginger.specs.Calls.{Dealt, key-part, Keys-good, Deals-open, Opens-agree, Past-kept}
 use Rattle.nosingginger.specs.declared.Answer.{Answer}
-use Rattle.witness.specs.Witness.{part, Opens-each, tables-joined, Shows-the-piece, Both-ways}
-use Rattle.nosingginger.proofs.Putting.{neither-refuses, nothing-refuses, room-there, room-enough, answer-is, put, take-front}
+use Rattle.witness.specs.Witness.{Opens-each, tables-joined, Shows-the-piece, Both-ways}
+use Rattle.nosingginger.proofs.Answering.{put-refused, put-done}
+use Rattle.nosingginger.proofs.InTurn.{neither}
+use Rattle.nosingginger.proofs.Putting.{nothing-refuses, room-there, room-enough, answer-is, take-front}
 use Rattle.nosingginger.proofs.OpenedKey.{all-answered, all-opened, one-opened, own-table-word, own-table-long}
 use Rattle.nosingginger.proofs.Calls.{deals-open, opens-agree, answered-keeps}
 
@@ -41,15 +43,8 @@ same-front first past short later h = go (eqb first 0) past short h
     go true false true h = refl
     go true false false h = absurd (h refl)
 
-put-refused : (refusal : ℕ) (bytes : List ℕ) (r : ℕ) (out : List ℕ) → r ≡ refusal → (r ≡ 0 → ⊥) → Put-says refusal bytes r out out
-unfolding Put-says
-put-refused zero bytes r out e h = absurd (h e)
-put-refused (suc n) bytes r out e h = (e, refl)
-
-put-says : (refusal : ℕ) (bytes out out-now : List ℕ) → refusal ≡ 0 → out-now ≡ in-front bytes out → Put-says refusal bytes 0 out out-now
-unfolding Put-says
-put-says zero bytes out out-now e now = (refl, now)
-put-says (suc n) bytes out out-now e now = let none : ⊥ = omega arith in absurd none
+answer-refused : (refusal : ℕ) (bytes : List ℕ) (r : ℕ) (out : List ℕ) → r ≡ refusal → (r ≡ 0 → ⊥) → Put-says refusal bytes r out out
+answer-refused n bytes r out e refused = put-refused n bytes r out out (λ z. refused (e ∙ z)) e refl
 
 -- two numbers of 32 bits have a product of 64
 pub product-fits : (a b : ℕ) → a < 4294967296 → b < 4294967296 → a * b < 18446744073709551616
@@ -74,14 +69,15 @@ module _ (key : List ℕ) (a : ℕ) (one one-now : List ℕ) where
       let n = head-in key .board .n in
       let w = head-in key .board .w in
       let first : Open-one-says key a 0 one one-now = subst (λ (k : ℕ). Open-one-says key a k one one-now) z says-one in
-      let called = one-opened key a one one-now first in
-      (answer-is _ (table (λ seed. key-rule key seed) key) s all all-now says-all ∙ rw (lt-leb n a (called .inside), le-ltb (length one) w (called .room)),
-      λ y. opens-agree key a one one-now all all-now good first (subst (λ (k : ℕ). Open-all-says key k all all-now) y says-all))
+      let called = one-opened key a one one-now first in (
+        answer-is _ (table (λ seed. key-rule key seed) key) s all all-now says-all ∙ rw (lt-leb n a (called .inside), le-ltb (length one) w (called .room)),
+        λ y. opens-agree key a one one-now all all-now good first (subst (λ (k : ℕ). Open-all-says key k all all-now) y says-all),
+      )
 
 -- JOINING TABLES
 
 abbrev table-of : (K : ℕ) → (keys : List ℕ) → (i : ℕ) → List ℕ
-table-of K keys i = table (λ seed. key-rule (part K i keys) seed) (part K i keys)
+table-of K keys i = table (λ seed. key-rule (key-part K i keys) seed) (key-part K i keys)
 
 pub none-joined : (K n size : ℕ) (keys out : List ℕ) → out ≡ replicate n 0 → n ≡ size → (length out ≡ size) × (out ≡ tables-joined 0 K size keys)
 unfolding tables-joined over zeros
@@ -89,10 +85,10 @@ none-joined K n size keys out e same = (ap length e ∙ length-replicate n 0 ∙
 
 module _ (K players size player : ℕ) (keys : List ℕ) (good : bytes-good keys ≡ true) (each : Opens-each keys K players size) (more : player < players) where
   -- the table that Open all leaves of the next key, where it just fits
-  next-table : (r : ℕ) (out out-now : List ℕ) → length out ≡ size → Open-all-says (part K player keys) r out out-now → (out-now ≡ table-of K keys player) × (length out-now ≡ size)
-  unfolding part in-front
+  next-table : (r : ℕ) (out out-now : List ℕ) → length out ≡ size → Open-all-says (key-part K player keys) r out out-now → (out-now ≡ table-of K keys player) × (length out-now ≡ size)
+  unfolding key-part in-front
   next-table r out out-now long says =
-      let key = part K player keys in
+      let key = key-part K player keys in
       let accepted = each .1 player more .0 in
       let sized = each .1 player more .1 in
       let z = all-answered key r out out-now accepted (omega (arith, sized)) says in
@@ -107,14 +103,15 @@ module _ (K players size player : ℕ) (keys : List ℕ) (good : bytes-good keys
       Open-all-says (take (player * K + K - player * K) (drop (player * K) keys)) r out out-now →
       joined ≡ tables-joined player K size keys → joined-now ≡ xors joined (take size out-now) →
       (length out-now ≡ size) × (length joined-now ≡ size) × (joined-now ≡ tables-joined (player + 1) K size keys)
-  unfolding tables-joined part
+  unfolding tables-joined key-part
   turn r out out-now joined joined-now long joined-long says so-far now =
       let cut : player * K + K - player * K ≡ K = omega arith in
       let next = next-table r out out-now long (subst (λ (k : ℕ). Open-all-says (take k (drop (player * K) keys)) r out out-now) cut says) in
-      let whole : take size out-now ≡ table-of K keys player = take-all size out-now (omega (arith, next .1)) ∙ next .0 in
-      (next .1,
-      ap length now ∙ length-xors joined (take size out-now) (joined-long ∙ sym (ap length whole ∙ sym (ap length (next .0)) ∙ next .1)) ∙ joined-long,
-      now ∙ rw (whole, so-far, add-one player) (sym (over-last player 0 size player (λ i. table-of K keys i) (omega arith))))
+      let whole : take size out-now ≡ table-of K keys player = take-all size out-now (omega (arith, next .1)) ∙ next .0 in (
+        next .1,
+        ap length now ∙ length-xors joined (take size out-now) (joined-long ∙ sym (ap length whole ∙ sym (ap length (next .0)) ∙ next .1)) ∙ joined-long,
+        now ∙ rw (whole, so-far, add-one player) (sym (over-last player 0 size player (λ i. table-of K keys i) (omega arith))),
+      )
 
 -- SHOWING THE PIECE
 
@@ -133,7 +130,7 @@ module _ (p n m w point : ℕ) (value arrays seeds words out out-now : List ℕ)
   unfolding Deal-says
   dealt-numbers h =
       let last : ℕ = cond (ltb (length out) named) 9 0 in
-      let both = neither-refuses asked last (sym (answer-is _ (keys-from p 0 (board p n m w) (λ seed. rule (board p n m w) seed) (lent point value arrays seeds words)) 0 out out-now h)) in
+      let both = neither asked last (sym (answer-is _ (keys-from p 0 (board p n m w) (λ seed. rule (board p n m w) seed) (lent point value arrays seeds words)) 0 out out-now h)) in
       (both .0, room-there (length out) named (both .1))
 
   pub deal-refused : (r table-room : ℕ) (joined : List ℕ) → Deal-says p n m w point value arrays seeds words r out out-now → (r ≡ 0 → ⊥) →
@@ -141,7 +138,7 @@ module _ (p n m w point : ℕ) (value arrays seeds words out out-now : List ℕ)
   unfolding Shows-the-piece Deal-says
   deal-refused r table-room joined h refused =
       let e = answer-is _ (keys-from p 0 (board p n m w) (λ seed. rule (board p n m w) seed) (lent point value arrays seeds words)) r out out-now h in
-      put-refused _ _ r joined
+      answer-refused _ _ r joined
       (e ∙ same-front asked false (ltb (length out) named) (cond (ltb table-room (n * w)) 9 (cond (ltb (length joined) (n * w)) 9 0)) (λ z. refused (e ∙ z))) refused
 
   module _ (r : ℕ) (answered : Deal-says p n m w point value arrays seeds words r out out-now) (z : r ≡ 0) (tables joined : List ℕ) where
@@ -157,12 +154,12 @@ module _ (p n m w point : ℕ) (value arrays seeds words out out-now : List ℕ)
 
     pub table-short : table-room < n * w → Shows-the-piece p n m w point value arrays seeds words (length out) table-room 9 joined joined
     unfolding Shows-the-piece
-    table-short short = put-refused _ _ 9 joined (sym (rest ∙ rw (lt-ltb table-room (n * w) short))) (λ z. omega arith)
+    table-short short = answer-refused _ _ 9 joined (sym (rest ∙ rw (lt-ltb table-room (n * w) short))) (λ z. omega arith)
 
     pub joined-short : n * w ≤ table-room → length joined < n * w → Shows-the-piece p n m w point value arrays seeds words (length out) table-room 9 joined joined
     unfolding Shows-the-piece
     joined-short room short =
-        put-refused _ _ 9 joined (sym (rest ∙ rw (le-ltb table-room (n * w) room, lt-ltb (length joined) (n * w) short))) (λ z. omega arith)
+        answer-refused _ _ 9 joined (sym (rest ∙ rw (le-ltb table-room (n * w) room, lt-ltb (length joined) (n * w) short))) (λ z. omega arith)
 
     module _ (long : Answer) (long-says : Long-says p n m w long) (value-bytes : bytes-good value ≡ true) (seeds-bytes : bytes-good seeds ≡ true) (words-bytes : bytes-good words ≡ true) where
       deal : Dealt p n m w point value long out-now
@@ -195,30 +192,34 @@ module _ (p n m w point : ℕ) (value arrays seeds words out out-now : List ℕ)
       -- so every key opens into a table that just fits
       pub each-opens : n * w ≤ length tables → n * w ≤ length joined →
           Opens-each out-now (long .value) p (length (take (n * w) tables)) × (length (take (n * w) joined) ≡ length (take (n * w) tables))
-      unfolding part key-part board
+      unfolding board
       each-opens room-tables room =
-          let long-tables = length-take-le (n * w) tables room-tables in
-          ((keys-fit, λ i inside.
-              let key = promised .accepted i inside in
-              (key .accepted, ap (λ (b : Board). b .n * b .w) (key .board-read) ∙ sym long-tables)),
-          length-take-le (n * w) joined room ∙ sym long-tables)
+          let long-tables = length-take-le (n * w) tables room-tables in (
+            (
+              keys-fit,
+              λ i inside.
+                  let key = promised .accepted i inside in
+                  (key .accepted, ap (λ (b : Board). b .n * b .w) (key .board-read) ∙ sym long-tables),
+            ),
+            length-take-le (n * w) joined room ∙ sym long-tables,
+          )
 
       -- what Open all writes of each, with room for it just so
       word : (i : ℕ) → i < p → Word (n * w) (table-of (long .value) out-now i)
-      unfolding part key-part board
+      unfolding board
       word i inside =
           let key = promised .accepted i inside in
           subst (λ (b : Board). Word (b .n * b .w) (table-of (long .value) out-now i)) (key .board-read)
-          (own-table-word (part (long .value) i out-now) (key .bytes) (key .accepted))
+          (own-table-word (key-part (long .value) i out-now) (key .bytes) (key .accepted))
 
-      open-says : (i : ℕ) → i < p → Open-all-says (key-part long i out-now) 0 (zeros (n * w)) (in-front (table-of (long .value) out-now i) (zeros (n * w)))
-      unfolding Open-all-says part key-part board
+      open-says : (i : ℕ) → i < p → Open-all-says (key-part (long .value) i out-now) 0 (zeros (n * w)) (in-front (table-of (long .value) out-now i) (zeros (n * w)))
+      unfolding Open-all-says board
       open-says i inside =
           let key = promised .accepted i inside in
           let room : length (zeros (n * w)) ≡ n * w = word-zeros (n * w) .long in
-          let size : head-in (part (long .value) i out-now) .board .n * head-in (part (long .value) i out-now) .board .w ≡ n * w = ap (λ (b : Board). b .n * b .w) (key .board-read) in
-          put-says _ (table-of (long .value) out-now i) (zeros (n * w)) _
-          (nothing-refuses (key-refusal (part (long .value) i out-now)) _ (key .accepted) (room-enough (length (zeros (n * w))) _ (omega (arith, size)))) refl
+          let size : head-in (key-part (long .value) i out-now) .board .n * head-in (key-part (long .value) i out-now) .board .w ≡ n * w = ap (λ (b : Board). b .n * b .w) (key .board-read) in
+          put-done _ (table-of (long .value) out-now i) 0 (zeros (n * w)) _
+          (nothing-refuses (key-refusal (key-part (long .value) i out-now)) _ (key .accepted) (room-enough (length (zeros (n * w))) _ (omega (arith, size)))) refl refl
 
       -- joins as promised
       joined-tables : tables-joined p (long .value) (n * w) out-now ≡ point-table (board p n m w) point value
@@ -242,5 +243,5 @@ module _ (p n m w point : ℕ) (value arrays seeds words out out-now : List ℕ)
       piece-shown front room-tables room now =
           let shown : front ≡ point-table (board p n m w) point value =
           now ∙ ap (λ (k : ℕ). tables-joined p (long .value) k out-now) (length-take-le (n * w) tables room-tables) ∙ joined-tables in
-          put-says _ (point-table (board p n m w) point value) joined (front ++ drop (n * w) joined)
-          (rest ∙ rw (le-ltb table-room (n * w) room-tables, le-ltb (length joined) (n * w) room)) (rw (shown, joined-long))
+          put-done _ (point-table (board p n m w) point value) 0 joined (front ++ drop (n * w) joined)
+          (rest ∙ rw (le-ltb table-room (n * w) room-tables, le-ltb (length joined) (n * w) room)) refl (rw (shown, joined-long))

@@ -4,26 +4,23 @@ use mathlib.Core.Bool.{cond}
 use mathlib.Core.List.{List}
 use Prim.Native.Nat.{ℕ, _*_, _≤_, _<_}
 use lib.Dec.{ltb, leb}
-use lib.ListN.{length, take, drop}
+use lib.ListN.{length, take}
 use Rattle.grid.specs.Grid.{board}
 use Rattle.grid.specs.Joining.{over}
 use Rattle.keys.specs.Keys.{key-refusal, head-in, key-long, deal-refusal, table}
 use Rattle.keys.specs.Promise.{entry, point-table}
 use Rattle.nosingginger.specs.Entry.{or-else, Put-says, lent, key-rule}
-
--- the i-th key of a slice
-unfoldable pub part : (K i : ℕ) → (keys : List ℕ) → List ℕ
-part K i ks = take K (drop (i * K) ks)
+use Rattle.nosingginger.specs.Calls.{key-part}
 
 -- keys one after another, each accepted and with a table of this size
 abbrev pub Opens-each : (keys : List ℕ) → (K players size : ℕ) → Type 0
 Opens-each ks K p size =
     (p * K ≤ length ks)
-    × ((i : ℕ) → i < p → (key-refusal (part K i ks) ≡ 0) × (head-in (part K i ks) .board .n * head-in (part K i ks) .board .w ≡ size))
+    × ((i : ℕ) → i < p → (key-refusal (key-part K i ks) ≡ 0) × (head-in (key-part K i ks) .board .n * head-in (key-part K i ks) .board .w ≡ size))
 
 -- the XOR of what Open all writes of each
 unfoldable pub tables-joined : (players K size : ℕ) → (keys : List ℕ) → List ℕ
-tables-joined p K size ks = over p 0 size (λ i. table (λ seed. key-rule (part K i ks) seed) (part K i ks))
+tables-joined p K size ks = over p 0 size (λ i. table (λ seed. key-rule (key-part K i ks) seed) (key-part K i ks))
 
 -- THE PIECE IS SHOWN, AND NOTHING ELSE: refused as Deal is, then by 9 where a buffer is short, and else the table with the value at the point
 unfoldable pub Shows-the-piece : (p n m w point : ℕ) → (value arrays seeds words : List ℕ) → (keys-room table-room r : ℕ) → (out out-now : List ℕ) → Type 0

@@ -49,7 +49,18 @@ pub fn deal_open_join(
 ) -> u32
     ensures { λ r. ⌜ Shows-the-piece players positions width «value_bytes» point (now (value .entry)) (now (arrays .entry)) (now (seeds .entry)) (now (words .entry)) (length (now (keys .entry))) (length (now (table .entry))) r (now (joined .entry)) (now (joined .exit)) ⌝ }
 {
-    let refusal = deal(players, positions, width, value_bytes, point, value, arrays, seeds, words, keys);
+    let refusal = deal(
+        players,
+        positions,
+        width,
+        value_bytes,
+        point,
+        value,
+        arrays,
+        seeds,
+        words,
+        keys,
+    );
     if refusal != 0 {
         return refusal;
     }
@@ -62,7 +73,13 @@ pub fn deal_open_join(
     }
     let long = key_length(players, positions, width, value_bytes);
     let key_bytes = long.value as usize;
-    join_tables(&keys[..], key_bytes, players as usize, &mut table[..size], &mut joined[..size]);
+    join_tables(
+        &keys[..],
+        key_bytes,
+        players as usize,
+        &mut table[..size],
+        &mut joined[..size],
+    );
     0
 }
 
