@@ -7,5 +7,6 @@ pub mod Marked
 pub mod Putting
 pub mod OpenedKey
 pub mod DealtKeys
+pub mod DealtCalls
 pub mod Calls
 pub mod Promise

@@ -3,11 +3,12 @@
 -- was. A reader who knows the contracts' names need not know what stands between a deal and its table. Quotations are document 01's.
 -- Each statement is a type; proofs/Calls.antt has a term of it under its name in small letters. Assumes nothing.
 use mathlib.Core.Path.{_≡_}
-use mathlib.Core.Bool.{true}
+use mathlib.Core.Bool.{true, cond}
 use mathlib.Core.List.{List, [], _∷_}
 use Prim.Native.Nat.{ℕ, _*_, _≤_, _<_}
+use lib.Dec.{eqb}
 use lib.ListN.{length, take, drop}
-use Rattle.xor.specs.Xor.{bytes-good}
+use Rattle.xor.specs.Xor.{zeros, bytes-good}
 use Rattle.grid.specs.Grid.{board}
 use Rattle.grid.specs.Joining.{over}
 use Rattle.keys.specs.Keys.{key-refusal, head-in}
@@ -29,7 +30,7 @@ pub record Dealt (p n m w point : ℕ) (value : List ℕ) (long : Answer) (keys-
   pub long-says : Long-says p n m w long
   pub deal-says : Deal-says p n m w point value arrays seeds words 0 keys keys-now
 
--- "Deal's p × K bytes, cut after every K": the i-th part
+-- "Deal's p × K bytes, cut after every K": the i-th part; so too the i-th share among shares of w bytes
 unfoldable pub key-part : (K i : ℕ) → (keys : List ℕ) → List ℕ
 key-part K i keys = take K (drop (i * K) keys)
 
@@ -55,6 +56,11 @@ pub record Keys-good (p n m w point : ℕ) (value : List ℕ) (long : Answer) (k
   -- Join keys of all p keys in one slice, where 9 doesn't refuse, answers 0 and writes that table
   pub joined : (r : ℕ) (out out-now : List ℕ) → n * w ≤ length out → Join-keys-says (take (p * long .value) keys-now) r out out-now →
       (r ≡ 0) × (out-now ≡ in-front (point-table (board p n m w) point value) out)
+  -- a square alone: the p shares that Open one leaves at it, one after another given to Join shares, give the value on the point and zeros elsewhere
+  pub square : (a : ℕ) (ones ones-now : ℕ → List ℕ) (shares : List ℕ) → ((i : ℕ) → i < p → Open-one-says (key-part (long .value) i keys-now) a 0 (ones i) (ones-now i)) →
+      length shares ≡ p * w → ((i : ℕ) → i < p → key-part w i shares ≡ take w (ones-now i)) →
+      (r : ℕ) (out out-now : List ℕ) → w ≤ length out → Join-says p w shares r out out-now →
+      (r ≡ 0) × (out-now ≡ in-front (cond (eqb a point) value (zeros w)) out)
 
 -- THE THIRD DEMAND, OF THE CALLS: every deal that is answered by 0 gives keys that open and join as promised
 unfoldable pub Deals-open : Type 0
