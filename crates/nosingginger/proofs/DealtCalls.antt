@@ -24,8 +24,8 @@ use Rattle.nosingginger.specs.Calls.{Dealt, key-part, Past-kept}
 use Rattle.nosingginger.specs.declared.Answer.{Answer}
 use Rattle.nosingginger.proofs.InTurn.{neither}
 use Rattle.nosingginger.proofs.Putting.{room-there, answer-is, put, take-front, drop-front, length-front}
-use Rattle.nosingginger.proofs.OpenedKey.{expansion, all-answered, all-opened, one-opened, own-table-long, own-entry-long}
-use Rattle.nosingginger.proofs.DealtKeys.{lent-accepted, keys-length, key-cut, opens-as, tables-over, keys-joined}
+use Rattle.nosingginger.proofs.OpenedKey.{opened-table, expansion, all-answered, one-opened, own-entry-long}
+use Rattle.nosingginger.proofs.DealtKeys.{lent-accepted, keys-length, key-cut, tables-over, keys-joined}
 
 -- what is put in front leaves the rest
 pub past : (k : ℕ) (new out out-now : List ℕ) → length new ≡ k → k ≤ length out → out-now ≡ in-front new out → Past-kept k out out-now
@@ -77,16 +77,10 @@ module _ (b : Board) (l : Lent) (long : Answer) (out keys-now : List ℕ) (d : L
   -- the table that Open all leaves of it
   part-table : (i : ℕ) (o o-now : List ℕ) → i < b .p → Open-all-says (key-part (long .value) i keys-now) 0 o o-now →
       take (b .n * b .w) o-now ≡ table (λ seed. rule b seed) (dealt-to i)
-  unfolding Dealt-accepted
   part-table i o o-now h says =
-      let k = dealt-to i in
-      let fine = dealt-accepted b (λ seed. rule b seed) l i (d .accepted) (expansion b) h in
-      let called = all-opened k o o-now (subst (λ (ks : List ℕ). Open-all-says ks 0 o o-now) (part-is i h) says) in
-      let own = opens-as b l (d .accepted) i h in
-      let long-own = own-table-long k (fine .2) (fine .0) in
-      let sized = subst (λ (c : Board). length (table (λ seed. rule b seed) k) ≡ c .n * c .w) (dealt-board b (λ seed. rule b seed) l i (d .accepted) (expansion b) h) (sym (ap length own) ∙ long-own) in
-      ap (λ (xs : List ℕ). take (b .n * b .w) xs) (called .now ∙ ap (λ (xs : List ℕ). in-front xs o) own)
-      ∙ take-front (b .n * b .w) (table (λ seed. rule b seed) k) o sized
+      let f : List ℕ → List ℕ = (λ seed. rule b seed) in
+      opened-table (dealt-to i) b (dealt-board b f l i (d .accepted) (expansion b) h) (dealt-word b f l i (d .accepted) (expansion b) h .good) o o-now
+      (subst (λ (ks : List ℕ). Open-all-says ks 0 o o-now) (part-is i h) says)
 
   pub part-opens : (i r : ℕ) (o o-now : List ℕ) → i < b .p → b .n * b .w ≤ length o → Open-all-says (key-part (long .value) i keys-now) r o o-now → r ≡ 0
   unfolding Dealt-accepted
