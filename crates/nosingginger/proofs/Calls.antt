@@ -19,9 +19,10 @@ use Rattle.keys.proofs.Accepted.{passed}
 use Rattle.keys.proofs.Promise.{dealt-accepted, dealt-board, dealt-player}
 use Rattle.nosingginger.specs.Entry.{lent, rule, Deal-says, Open-one-says, Open-all-says, joined-shares, shares-refusal, Join-says, Expand-says}
 use Rattle.nosingginger.specs.JoinKeys.{Join-keys-says}
-use Rattle.nosingginger.specs.Calls.{key-part, Deals-open, Accepted-opens, Opens-agree, Untouched, Refused-leaves, Answered-keeps}
+use Rattle.nosingginger.specs.Calls.{key-part, Deals-open, Accepted-opens, Opens-agree, Joins-agree, Untouched, Refused-leaves, Answered-keeps}
 use Rattle.nosingginger.proofs.Putting.{room-there, answer-is, put, untouched, take-front, part-front}
 use Rattle.nosingginger.proofs.OpenedKey.{expansion, all-answered, one-answered, all-opened, one-opened, own-table-long, own-entry, own-entry-long, entry-fits}
+use Rattle.nosingginger.proofs.JoinedKeys.{joined-says, part-fine, joined-word, joined-as-opened}
 use Rattle.nosingginger.proofs.DealtCalls.{past, left, part-is, part-opens, parts-join, parts-joined, keys-past, square-joined}
 
 -- what Check key says of an accepted key
@@ -80,6 +81,13 @@ opens-agree key a one one-now all all-now good says-one says-all =
     ap (λ (xs : List ℕ). take (b .w) xs) (one-called .now) ∙ take-front (b .w) _ one (own-entry-long key good accepted a inside)
     ∙ own-entry key good accepted a inside ∙ sym table-now
 
+pub joins-agree : Joins-agree
+unfolding Joins-agree
+joins-agree keys out out-now good says =
+    let b = head-in keys .board in
+    let t = joined-says keys out out-now says in
+    record { accepted = part-fine keys out out-now b good t; joins = joined-as-opened keys out out-now b good t }
+
 -- REFUSALS
 
 pub refused-leaves : Refused-leaves
@@ -131,4 +139,8 @@ answered-keeps =
           let none = sym (answer-is _ written 0 out out-now h) in
           let fine = shares-fine p w (length shares) (length out) none in
           past w written out out-now (length-joined p w shares (omega (arith, fine .0))) (fine .1) (put _ written 0 out out-now h none);
+      join-keys = λ keys out out-now good h.
+          let b = head-in keys .board in
+          let t = joined-says keys out out-now h in
+          past (b .n * b .w) _ out out-now (joined-word keys out out-now b good t .long) (t .room) (t .now);
     }

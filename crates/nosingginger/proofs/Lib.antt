@@ -8,5 +8,6 @@ pub mod Putting
 pub mod OpenedKey
 pub mod DealtKeys
 pub mod DealtCalls
+pub mod JoinedKeys
 pub mod Calls
 pub mod Promise

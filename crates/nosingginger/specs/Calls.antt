@@ -9,9 +9,9 @@ use Prim.Native.Nat.{ℕ, _*_, _≤_, _<_}
 use lib.Dec.{eqb}
 use lib.ListN.{length, take, drop}
 use Rattle.xor.specs.Xor.{zeros, bytes-good}
-use Rattle.grid.specs.Grid.{board}
+use Rattle.grid.specs.Grid.{Board, board}
 use Rattle.grid.specs.Joining.{over}
-use Rattle.keys.specs.Keys.{key-refusal, head-in}
+use Rattle.keys.specs.Keys.{key-refusal, head-in, key-long}
 use Rattle.keys.specs.Answers.{key-checked}
 use Rattle.keys.specs.Promise.{entry, point-table}
 use Rattle.nosingginger.specs.Entry.{Deal-says, Long-says, Open-one-says, Open-all-says, Join-says, Expand-says, in-front}
@@ -82,6 +82,17 @@ Opens-agree =
     Open-one-says key a 0 one one-now → Open-all-says key 0 all all-now →
     take (head-in key .board .w) one-now ≡ entry (head-in key .board) all-now a
 
+-- JOIN KEYS IS OPEN ALL AND XOR: any slice that it answers by 0 is p accepted keys of one board, and what it writes is the XOR of the tables
+-- that Open all leaves of each
+pub record Joined-as-opened (keys out-now : List ℕ) (b : Board) : Type 0 where
+  pub accepted : (i : ℕ) → i < b .p → (key-refusal (key-part (key-long b) i keys) ≡ 0) × (head-in (key-part (key-long b) i keys) .board ≡ b)
+  pub joins : (tables tables-now : ℕ → List ℕ) → ((i : ℕ) → i < b .p → Open-all-says (key-part (key-long b) i keys) 0 (tables i) (tables-now i)) →
+      take (b .n * b .w) out-now ≡ over (b .p) 0 (b .n * b .w) (λ i. take (b .n * b .w) (tables-now i))
+
+unfoldable pub Joins-agree : Type 0
+Joins-agree =
+    (keys out out-now : List ℕ) → bytes-good keys ≡ true → Join-keys-says keys 0 out out-now → Joined-as-opened keys out-now (head-in keys .board)
+
 -- what a call that did not answer 0 left
 unfoldable pub Untouched : (r : ℕ) → (out out-now : List ℕ) → Type 0
 Untouched r out out-now = (r ≡ 0 → ⊥) → out-now ≡ out
@@ -109,3 +120,5 @@ pub record Answered-keeps : Type 0 where
   pub open-all : (key : List ℕ) (out out-now : List ℕ) → bytes-good key ≡ true → Open-all-says key 0 out out-now →
       Past-kept (head-in key .board .n * head-in key .board .w) out out-now
   pub join-shares : (p w : ℕ) (shares : List ℕ) (out out-now : List ℕ) → Join-says p w shares 0 out out-now → Past-kept w out out-now
+  pub join-keys : (keys : List ℕ) (out out-now : List ℕ) → bytes-good keys ≡ true → Join-keys-says keys 0 out out-now →
+      Past-kept (head-in keys .board .n * head-in keys .board .w) out out-now
