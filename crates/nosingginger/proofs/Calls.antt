@@ -1,125 +1,29 @@
 -- The promises of specs/Calls.antt, each under its statement's name in small letters, from the contracts alone: what a call leaves with the
 -- answer 0 is a definition's bytes, and of those the promises of the crate keys hold under expansion. Assumes nothing.
-use mathlib.Core.Path.{_≡_, sym, ap, _∙_, subst, subst⁻¹}
-use mathlib.Core.Bool.{true, _&&_, not, cond}
+use mathlib.Core.Path.{_≡_, sym, ap, _∙_}
+use mathlib.Core.Bool.{_&&_, not}
 use mathlib.Core.List.{List, [], _∷_}
-use Prim.Native.Nat.{ℕ, zero, suc, _+_, _*_, _≤_, _<_}
+use Prim.Native.Nat.{ℕ, zero, suc, _+_, _*_, _≤_}
 use native.Mathlib.Omega.{arith}
-use lib.Dec.{ltb, leb, eqb}
+use lib.Dec.{leb, eqb}
 use lib.ListN.{length, take, drop, length-drop}
 use lib.Seq.{length-take-le}
-use borrow.Author.Tests.{eqb-true, eq-eqb, not-false}
+use borrow.Author.Tests.{eqb-true, not-false}
 use Rattle.xor.specs.Xor.{bytes-good}
 use Rattle.xor.proofs.Laws.{length-xors, word-zeros}
-use Rattle.grid.specs.Grid.{Board, board, board-refusal}
-use Rattle.grid.specs.Joining.{over}
-use Rattle.grid.proofs.Facts.{board-accepted}
-use Rattle.grid.proofs.Sums.{over-same}
-use Rattle.keys.specs.Keys.{Lent, key, keys-from, key-long, key-refusal, deal-refusal, head-in, table}
-use Rattle.keys.specs.Promise.{lent-good, entry, point-table, Dealt-accepted}
+use Rattle.grid.specs.Grid.{board}
+use Rattle.keys.specs.Keys.{key, key-refusal, head-in}
+use Rattle.keys.specs.Promise.{entry, Dealt-accepted}
 use Rattle.keys.specs.Answers.{head-numbers, key-checked}
 use Rattle.keys.proofs.Accepted.{passed}
-use Rattle.keys.proofs.Dealing.{lent-in}
 use Rattle.keys.proofs.Promise.{dealt-accepted, dealt-board, dealt-player}
-use Rattle.nosingginger.specs.Entry.{or-else, in-front, says, lent, rule, Deal-says, Long-says, Open-one-says, Open-all-says, joined-shares, shares-refusal, Join-says, Expand-says}
+use Rattle.nosingginger.specs.Entry.{lent, rule, Deal-says, Open-one-says, Open-all-says, joined-shares, shares-refusal, Join-says, Expand-says}
 use Rattle.nosingginger.specs.JoinKeys.{Join-keys-says}
-use Rattle.nosingginger.specs.Calls.{Dealt, key-part, Deals-open, Accepted-opens, Opens-agree, Untouched, Refused-leaves, Past-kept, Answered-keeps}
-use Rattle.nosingginger.specs.declared.Answer.{Answer}
-use Rattle.nosingginger.proofs.InTurn.{neither}
-use Rattle.nosingginger.proofs.Putting.{room-there, answer-is, put, untouched, take-front, drop-front, length-front, part-front}
+use Rattle.nosingginger.specs.Calls.{key-part, Deals-open, Accepted-opens, Opens-agree, Joins-agree, Untouched, Refused-leaves, Answered-keeps}
+use Rattle.nosingginger.proofs.Putting.{room-there, answer-is, put, untouched, take-front, part-front}
 use Rattle.nosingginger.proofs.OpenedKey.{expansion, all-answered, one-answered, all-opened, one-opened, own-table-long, own-entry, own-entry-long, entry-fits}
-use Rattle.nosingginger.proofs.DealtKeys.{lent-accepted, keys-length, key-cut, opens-as, tables-over, keys-joined}
-
--- what is put in front leaves the rest
-past : (k : ℕ) (new out out-now : List ℕ) → length new ≡ k → k ≤ length out → out-now ≡ in-front new out → Past-kept k out out-now
-unfolding Past-kept
-past k new out out-now long room now =
-    (ap length now ∙ length-front k new out long room, ap (λ (xs : List ℕ). drop k xs) now ∙ drop-front k new out long)
-
--- WHAT A DEAL LEFT
-
--- Deal answered 0 on this board and these lent bytes, and Key length gave K
-record Left (b : Board) (l : Lent) (long : Answer) (out keys-now : List ℕ) : Type 0 where
-  accepted : lent-good b l ≡ true
-  given : long .refusal ≡ 0
-  long-is : long .value ≡ key-long b
-  room : b .p * key-long b ≤ length out
-  now : keys-now ≡ in-front (keys-from (b .p) 0 b (λ seed. rule b seed) l) out
-
-left : (p n m w point : ℕ) (value : List ℕ) (long : Answer) (keys-now : List ℕ) (d : Dealt p n m w point value long keys-now) →
-    Left (board p n m w) (lent point value (d .arrays) (d .seeds) (d .words)) long (d .keys) keys-now
-unfolding Deal-says Long-says says board lent
-left p n m w point value long keys-now d =
-    let b = board p n m w in
-    let l = lent point value (d .arrays) (d .seeds) (d .words) in
-    let keys = keys-from p 0 b (λ seed. rule b seed) l in
-    let last : ℕ = cond (ltb (length (d .keys)) (p * key-long b)) 9 0 in
-    let none : or-else (deal-refusal b l) last ≡ 0 = sym (answer-is _ keys 0 (d .keys) keys-now (d .deal-says)) in
-    let both = neither (deal-refusal b l) last none in
-    let good = lent-accepted b l (both .0) (d .value-bytes) (d .seeds-bytes) (d .words-bytes) in
-    let fine : board-refusal b ≡ 0 = board-accepted b (lent-in b l good .board) in
-    record {
-      accepted = good;
-      given = d .long-says .0 ∙ fine;
-      long-is = d .long-says .1 ∙ rw (eq-eqb (board-refusal b) 0 fine);
-      room = room-there (length (d .keys)) (p * key-long b) (both .1);
-      now = put _ keys 0 (d .keys) keys-now (d .deal-says) none;
-    }
-
-module _ (b : Board) (l : Lent) (long : Answer) (out keys-now : List ℕ) (d : Left b l long out keys-now) where
-  abbrev dealt-to : (player : ℕ) → List ℕ
-  dealt-to i = key b (λ seed. rule b seed) l i
-
-  -- the i-th part is player i's key
-  part-is : (i : ℕ) → i < b .p → key-part (long .value) i keys-now ≡ dealt-to i
-  unfolding key-part
-  part-is i h =
-      ap (λ (k : ℕ). take k (drop (i * k) keys-now)) (d .long-is)
-      ∙ ap (λ (ks : List ℕ). take (key-long b) (drop (i * key-long b) ks)) (d .now) ∙ key-cut b l (d .accepted) i out h
-
-  -- the table that Open all leaves of it
-  part-table : (i : ℕ) (o o-now : List ℕ) → i < b .p → Open-all-says (key-part (long .value) i keys-now) 0 o o-now →
-      take (b .n * b .w) o-now ≡ table (λ seed. rule b seed) (dealt-to i)
-  unfolding Dealt-accepted
-  part-table i o o-now h says =
-      let k = dealt-to i in
-      let fine = dealt-accepted b (λ seed. rule b seed) l i (d .accepted) (expansion b) h in
-      let called = all-opened k o o-now (subst (λ (ks : List ℕ). Open-all-says ks 0 o o-now) (part-is i h) says) in
-      let own = opens-as b l (d .accepted) i h in
-      let long-own = own-table-long k (fine .2) (fine .0) in
-      let sized = subst (λ (c : Board). length (table (λ seed. rule b seed) k) ≡ c .n * c .w) (dealt-board b (λ seed. rule b seed) l i (d .accepted) (expansion b) h) (sym (ap length own) ∙ long-own) in
-      ap (λ (xs : List ℕ). take (b .n * b .w) xs) (called .now ∙ ap (λ (xs : List ℕ). in-front xs o) own)
-      ∙ take-front (b .n * b .w) (table (λ seed. rule b seed) k) o sized
-
-  part-opens : (i r : ℕ) (o o-now : List ℕ) → i < b .p → b .n * b .w ≤ length o → Open-all-says (key-part (long .value) i keys-now) r o o-now → r ≡ 0
-  unfolding Dealt-accepted
-  part-opens i r o o-now h room says =
-      let fine = dealt-accepted b (λ seed. rule b seed) l i (d .accepted) (expansion b) h in
-      all-answered (dealt-to i) r o o-now (fine .0)
-      (subst⁻¹ (λ (c : Board). c .n * c .w ≤ length o) (dealt-board b (λ seed. rule b seed) l i (d .accepted) (expansion b) h) room)
-      (subst (λ (ks : List ℕ). Open-all-says ks r o o-now) (part-is i h) says)
-
-  parts-join : (o o-now : ℕ → List ℕ) → ((i : ℕ) → i < b .p → Open-all-says (key-part (long .value) i keys-now) 0 (o i) (o-now i)) →
-      over (b .p) 0 (b .n * b .w) (λ i. take (b .n * b .w) (o-now i)) ≡ point-table b (l .point) (l .value)
-  parts-join o o-now h =
-      over-same (b .p) 0 (b .n * b .w) (λ i. take (b .n * b .w) (o-now i)) (λ i. table (λ seed. rule b seed) (dealt-to i))
-      (λ i p q. let inside : i < b .p = omega arith in part-table i (o i) (o-now i) inside (h i inside))
-      ∙ tables-over b l (d .accepted)
-
-  keys-whole : take (b .p * long .value) keys-now ≡ keys-from (b .p) 0 b (λ seed. rule b seed) l
-  keys-whole =
-      ap (λ (k : ℕ). take (b .p * k) keys-now) (d .long-is) ∙ ap (λ (ks : List ℕ). take (b .p * key-long b) ks) (d .now)
-      ∙ take-front (b .p * key-long b) (keys-from (b .p) 0 b (λ seed. rule b seed) l) out (keys-length b l (d .accepted))
-
-  parts-joined : (r : ℕ) (o o-now : List ℕ) → b .n * b .w ≤ length o → Join-keys-says (take (b .p * long .value) keys-now) r o o-now →
-      (r ≡ 0) × (o-now ≡ in-front (point-table b (l .point) (l .value)) o)
-  parts-joined r o o-now room says =
-      keys-joined b l (d .accepted) r o o-now room (subst (λ (ks : List ℕ). Join-keys-says ks r o o-now) keys-whole says)
-
-  keys-past : Past-kept (b .p * long .value) out keys-now
-  keys-past =
-      subst⁻¹ (λ (k : ℕ). Past-kept (b .p * k) out keys-now) (d .long-is)
-      (past (b .p * key-long b) (keys-from (b .p) 0 b (λ seed. rule b seed) l) out keys-now (keys-length b l (d .accepted)) (d .room) (d .now))
+use Rattle.nosingginger.proofs.JoinedKeys.{joined-says, part-fine, joined-word, joined-as-opened}
+use Rattle.nosingginger.proofs.DealtCalls.{past, left, part-is, part-opens, parts-join, parts-joined, keys-past, square-joined}
 
 -- what Check key says of an accepted key
 checked-of : (p i n m w : ℕ) (key : List ℕ) → key-refusal key ≡ 0 → head-in key .board ≡ board p n m w → head-in key .player ≡ i →
@@ -154,6 +58,7 @@ deals-open p n m w point value long keys-now d =
       opens = part-opens b l long (d .keys) keys-now t;
       joins = parts-join b l long (d .keys) keys-now t;
       joined = parts-joined b l long (d .keys) keys-now t;
+      square = square-joined b l long (d .keys) keys-now t;
     }
 
 pub accepted-opens : Accepted-opens
@@ -175,6 +80,13 @@ opens-agree key a one one-now all all-now good says-one says-all =
     ap (λ (xs : List ℕ). take (b .w) (drop (a * b .w) xs)) (all-called .now) ∙ part-front (a * b .w) (b .w) _ all (omega arith) in
     ap (λ (xs : List ℕ). take (b .w) xs) (one-called .now) ∙ take-front (b .w) _ one (own-entry-long key good accepted a inside)
     ∙ own-entry key good accepted a inside ∙ sym table-now
+
+pub joins-agree : Joins-agree
+unfolding Joins-agree
+joins-agree keys out out-now good says =
+    let b = head-in keys .board in
+    let t = joined-says keys out out-now says in
+    record { accepted = part-fine keys out out-now b good t; joins = joined-as-opened keys out out-now b good t }
 
 -- REFUSALS
 
@@ -227,4 +139,8 @@ answered-keeps =
           let none = sym (answer-is _ written 0 out out-now h) in
           let fine = shares-fine p w (length shares) (length out) none in
           past w written out out-now (length-joined p w shares (omega (arith, fine .0))) (fine .1) (put _ written 0 out out-now h none);
+      join-keys = λ keys out out-now good h.
+          let b = head-in keys .board in
+          let t = joined-says keys out out-now h in
+          past (b .n * b .w) _ out out-now (joined-word keys out out-now b good t .long) (t .room) (t .now);
     }

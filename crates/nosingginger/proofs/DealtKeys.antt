@@ -21,7 +21,7 @@ use Rattle.keys.proofs.Accepted.{pass}
 use Rattle.keys.proofs.Dealing.{Lent-in, lent-in}
 use Rattle.keys.proofs.Numbers.{header-read-back}
 use Rattle.keys.proofs.Promise.{dealt-board, dealt-player, dealt-key, dealt-word, keys-long, keys-apart, full-tables-join}
-use Rattle.nosingginger.specs.Entry.{or-else, in-front, rule, key-rule}
+use Rattle.nosingginger.specs.Entry.{or-else, in-front, rule}
 use Rattle.nosingginger.specs.JoinKeys.{head-refusal, same-board, place-refusal, places-refusal, keys-refusal, joined-table, Join-keys-says}
 use Rattle.nosingginger.proofs.InTurn.{numbers-none}
 use Rattle.nosingginger.proofs.Putting.{nothing-refuses, room-enough, answer-is, put, part-front}
@@ -68,12 +68,6 @@ module _ (b : Board) (l : Lent) (good : lent-good b l ≡ true) where
   key-cut i out h =
       let fits : suc i * key-long b ≤ b .p * key-long b = mul-le-mul-right (key-long b) h in
       part-front (i * key-long b) (key-long b) keys out (omega (arith, keys-length)) ∙ keys-apart b (λ seed. rule b seed) l i good (expansion b) h
-
-  -- WHAT OPEN ALL WRITES of a dealt key is its table under the dealing's rule
-
-  pub opens-as : (i : ℕ) → i < b .p → table (λ seed. key-rule (dealt-of i) seed) (dealt-of i) ≡ table (λ seed. rule b seed) (dealt-of i)
-  unfolding key-rule
-  opens-as i h = ap (λ (c : Board). table (λ seed. rule c seed) (dealt-of i)) (dealt-board b (λ seed. rule b seed) l i good (expansion b) h)
 
   -- JOIN KEYS ACCEPTS THEM
 

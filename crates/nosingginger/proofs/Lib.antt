@@ -7,5 +7,7 @@ pub mod Marked
 pub mod Putting
 pub mod OpenedKey
 pub mod DealtKeys
+pub mod DealtCalls
+pub mod JoinedKeys
 pub mod Calls
 pub mod Promise

@@ -1,13 +1,13 @@
 -- Opening an accepted key by the calls, from their contracts alone: where Open all and Open one answer 0, and what they leave then, which
 -- is the key's own table under expansion and that table's entry. Assumes nothing.
-use mathlib.Core.Path.{_≡_, sym, ap, _∙_}
+use mathlib.Core.Path.{_≡_, sym, ap, _∙_, subst}
 use mathlib.Core.Bool.{true, cond}
 use mathlib.Core.List.{List}
 use Prim.Native.Nat.{ℕ, suc, _+_, _*_, _≤_, _<_}
 use native.Mathlib.Nat.{mul-le-mul-right}
 use native.Mathlib.Omega.{arith}
 use lib.Dec.{ltb, leb}
-use lib.ListN.{length, drop, length-drop}
+use lib.ListN.{length, take, drop, length-drop}
 use lib.Seq.{length-take-le}
 use Rattle.xor.specs.Xor.{bytes-good}
 use Rattle.xor.proofs.Laws.{Word}
@@ -18,7 +18,7 @@ use Rattle.keys.specs.Promise.{Rule-good, entry, Table-long, Opens-alone}
 use Rattle.keys.proofs.Promise.{table-long, opens-alone}
 use Rattle.nosingginger.specs.Entry.{or-else, in-front, rule, key-rule, Open-one-says, Open-all-says}
 use Rattle.nosingginger.proofs.InTurn.{neither}
-use Rattle.nosingginger.proofs.Putting.{nothing-refuses, room-there, room-enough, square-there, square-in, answer-is, put}
+use Rattle.nosingginger.proofs.Putting.{nothing-refuses, room-there, room-enough, square-there, square-in, answer-is, put, take-front}
 
 -- EXPANSION IS A ROW RULE
 
@@ -121,3 +121,20 @@ module _ (key : List ℕ) where
     own-entry-long a inside =
         ap length (own-entry a inside)
         ∙ length-take-le width (drop (a * width) own-table) (rw length-drop (omega (arith, own-table-long, entry-fits a inside)))
+
+-- of a key whose board is known, Open all leaves the table under that board's rule
+module _ (key : List ℕ) (b : Board) (named : head-in key .board ≡ b) (good : bytes-good key ≡ true) where
+  named-table : table (λ seed. key-rule key seed) key ≡ table (λ seed. rule b seed) key
+  unfolding key-rule
+  named-table = ap (λ (c : Board). table (λ seed. rule c seed) key) named
+
+  pub named-table-word : key-refusal key ≡ 0 → Word (b .n * b .w) (table (λ seed. rule b seed) key)
+  named-table-word accepted =
+      let own = subst (λ (xs : List ℕ). Word (squares key * width key) xs) named-table (own-table-word key good accepted) in
+      subst (λ (c : Board). Word (c .n * c .w) (table (λ seed. rule b seed) key)) named own
+
+  pub opened-table : (out out-now : List ℕ) → Open-all-says key 0 out out-now → take (b .n * b .w) out-now ≡ table (λ seed. rule b seed) key
+  opened-table out out-now says =
+      let called = all-opened key out out-now says in
+      ap (λ (xs : List ℕ). take (b .n * b .w) xs) (called .now ∙ ap (λ (xs : List ℕ). in-front xs out) named-table)
+      ∙ take-front (b .n * b .w) (table (λ seed. rule b seed) key) out (named-table-word (called .accepted) .long)

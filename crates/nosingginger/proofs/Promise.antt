@@ -9,7 +9,7 @@ use Rattle.keys.proofs.Promise.{header-reads, reads-parts, only-writing, same-p
 use Rattle.keys.proofs.Document03
 use Rattle.nosingginger.specs.Promise.{Expansion-is-a-rule, Promises}
 use Rattle.nosingginger.proofs.OpenedKey.{expansion}
-use Rattle.nosingginger.proofs.Calls.{deals-open, accepted-opens, opens-agree, refused-leaves, answered-keeps}
+use Rattle.nosingginger.proofs.Calls.{deals-open, accepted-opens, opens-agree, joins-agree, refused-leaves, answered-keeps}
 use Rattle.nosingginger.proofs.Marked.{marked-deals}
 
 pub expansion-is-a-rule : Expansion-is-a-rule
@@ -41,6 +41,7 @@ promises =
       deals-open = deals-open;
       accepted-opens = accepted-opens;
       opens-agree = opens-agree;
+      joins-agree = joins-agree;
       refused-leaves = refused-leaves;
       answered-keeps = answered-keeps;
       each-column-once = each-column-once;

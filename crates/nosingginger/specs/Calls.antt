@@ -3,14 +3,15 @@
 -- was. A reader who knows the contracts' names need not know what stands between a deal and its table. Quotations are document 01's.
 -- Each statement is a type; proofs/Calls.antt has a term of it under its name in small letters. Assumes nothing.
 use mathlib.Core.Path.{_≡_}
-use mathlib.Core.Bool.{true}
+use mathlib.Core.Bool.{true, cond}
 use mathlib.Core.List.{List, [], _∷_}
 use Prim.Native.Nat.{ℕ, _*_, _≤_, _<_}
+use lib.Dec.{eqb}
 use lib.ListN.{length, take, drop}
-use Rattle.xor.specs.Xor.{bytes-good}
-use Rattle.grid.specs.Grid.{board}
+use Rattle.xor.specs.Xor.{zeros, bytes-good}
+use Rattle.grid.specs.Grid.{Board, board}
 use Rattle.grid.specs.Joining.{over}
-use Rattle.keys.specs.Keys.{key-refusal, head-in}
+use Rattle.keys.specs.Keys.{key-refusal, head-in, key-long}
 use Rattle.keys.specs.Answers.{key-checked}
 use Rattle.keys.specs.Promise.{entry, point-table}
 use Rattle.nosingginger.specs.Entry.{Deal-says, Long-says, Open-one-says, Open-all-says, Join-says, Expand-says, in-front}
@@ -29,7 +30,7 @@ pub record Dealt (p n m w point : ℕ) (value : List ℕ) (long : Answer) (keys-
   pub long-says : Long-says p n m w long
   pub deal-says : Deal-says p n m w point value arrays seeds words 0 keys keys-now
 
--- "Deal's p × K bytes, cut after every K": the i-th part
+-- "Deal's p × K bytes, cut after every K": the i-th part; so too the i-th share among shares of w bytes
 unfoldable pub key-part : (K i : ℕ) → (keys : List ℕ) → List ℕ
 key-part K i keys = take K (drop (i * K) keys)
 
@@ -55,6 +56,11 @@ pub record Keys-good (p n m w point : ℕ) (value : List ℕ) (long : Answer) (k
   -- Join keys of all p keys in one slice, where 9 doesn't refuse, answers 0 and writes that table
   pub joined : (r : ℕ) (out out-now : List ℕ) → n * w ≤ length out → Join-keys-says (take (p * long .value) keys-now) r out out-now →
       (r ≡ 0) × (out-now ≡ in-front (point-table (board p n m w) point value) out)
+  -- a square alone: the p shares that Open one leaves at it, one after another given to Join shares, give the value on the point and zeros elsewhere
+  pub square : (a : ℕ) (ones ones-now : ℕ → List ℕ) (shares : List ℕ) → ((i : ℕ) → i < p → Open-one-says (key-part (long .value) i keys-now) a 0 (ones i) (ones-now i)) →
+      length shares ≡ p * w → ((i : ℕ) → i < p → key-part w i shares ≡ take w (ones-now i)) →
+      (r : ℕ) (out out-now : List ℕ) → w ≤ length out → Join-says p w shares r out out-now →
+      (r ≡ 0) × (out-now ≡ in-front (cond (eqb a point) value (zeros w)) out)
 
 -- THE THIRD DEMAND, OF THE CALLS: every deal that is answered by 0 gives keys that open and join as promised
 unfoldable pub Deals-open : Type 0
@@ -75,6 +81,17 @@ Opens-agree =
     (key : List ℕ) (a : ℕ) (one one-now all all-now : List ℕ) → bytes-good key ≡ true →
     Open-one-says key a 0 one one-now → Open-all-says key 0 all all-now →
     take (head-in key .board .w) one-now ≡ entry (head-in key .board) all-now a
+
+-- JOIN KEYS IS OPEN ALL AND XOR: any slice that it answers by 0 is p accepted keys of one board, and what it writes is the XOR of the tables
+-- that Open all leaves of each
+pub record Joined-as-opened (keys out-now : List ℕ) (b : Board) : Type 0 where
+  pub accepted : (i : ℕ) → i < b .p → (key-refusal (key-part (key-long b) i keys) ≡ 0) × (head-in (key-part (key-long b) i keys) .board ≡ b)
+  pub joins : (tables tables-now : ℕ → List ℕ) → ((i : ℕ) → i < b .p → Open-all-says (key-part (key-long b) i keys) 0 (tables i) (tables-now i)) →
+      take (b .n * b .w) out-now ≡ over (b .p) 0 (b .n * b .w) (λ i. take (b .n * b .w) (tables-now i))
+
+unfoldable pub Joins-agree : Type 0
+Joins-agree =
+    (keys out out-now : List ℕ) → bytes-good keys ≡ true → Join-keys-says keys 0 out out-now → Joined-as-opened keys out-now (head-in keys .board)
 
 -- what a call that did not answer 0 left
 unfoldable pub Untouched : (r : ℕ) → (out out-now : List ℕ) → Type 0
@@ -103,3 +120,5 @@ pub record Answered-keeps : Type 0 where
   pub open-all : (key : List ℕ) (out out-now : List ℕ) → bytes-good key ≡ true → Open-all-says key 0 out out-now →
       Past-kept (head-in key .board .n * head-in key .board .w) out out-now
   pub join-shares : (p w : ℕ) (shares : List ℕ) (out out-now : List ℕ) → Join-says p w shares 0 out out-now → Past-kept w out out-now
+  pub join-keys : (keys : List ℕ) (out out-now : List ℕ) → bytes-good keys ≡ true → Join-keys-says keys 0 out out-now →
+      Past-kept (head-in keys .board .n * head-in keys .board .w) out out-now

@@ -9,7 +9,7 @@ unfoldable pub use Rattle.grid.specs.Moving.{Moved-is-named, Moving-finds}
 unfoldable pub use Rattle.keys.specs.Promise.{Rule-good, Header-reads, Reads-parts, Only-writing, Same-parts, Dealt-accepted, Keys-long, Keys-apart, Table-long, Opens-alone, Keys-open, Tables-join, Full-tables-join}
 use Rattle.keys.specs.Document03
 use Rattle.nosingginger.specs.Entry.{rule}
-unfoldable pub use Rattle.nosingginger.specs.Calls.{Deals-open, Accepted-opens, Opens-agree}
+unfoldable pub use Rattle.nosingginger.specs.Calls.{Deals-open, Accepted-opens, Opens-agree, Joins-agree}
 pub use Rattle.nosingginger.specs.Calls.{Refused-leaves, Answered-keeps}
 unfoldable pub use Rattle.nosingginger.specs.Marked.{Marked-deals}
 
@@ -61,6 +61,8 @@ pub record Promises : Type 0 where
   -- "and any accepted key given to Open all and Open one, where 9 doesn't refuse"
   pub accepted-opens : Accepted-opens
   pub opens-agree : Opens-agree
+  -- Join keys is Open all of each key, and XOR
+  pub joins-agree : Joins-agree
   -- "A refusal returns its number and leaves all lent bytes unchanged. Output past the bytes named keeps its bytes."
   pub refused-leaves : Refused-leaves
   pub answered-keeps : Answered-keeps
