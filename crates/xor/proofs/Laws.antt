@@ -115,6 +115,13 @@ length-xors [] ys h = refl
 length-xors (x ∷ xs) [] h = sym h
 length-xors (x ∷ xs) (y ∷ ys) h = ap suc (length-xors xs ys (omega arith))
 
+pub getD-xors : (xs ys : List ℕ) (i : ℕ) → length xs ≡ length ys → i < length xs → getD (xors xs ys) i 0 ≡ xor-from 8 (getD xs i 0) (getD ys i 0)
+unfolding xors
+getD-xors [] ys i h p = absurd (not-suc-le-zero p)
+getD-xors (x ∷ xs) [] i h p = let none : ⊥ = omega arith in absurd none
+getD-xors (x ∷ xs) (y ∷ ys) zero h p = refl
+getD-xors (x ∷ xs) (y ∷ ys) (suc i) h p = getD-xors xs ys i (omega arith) (omega arith)
+
 pub take-xors : (k : ℕ) (xs ys : List ℕ) → take k (xors xs ys) ≡ xors (take k xs) (take k ys)
 unfolding xors
 take-xors zero xs ys = refl
