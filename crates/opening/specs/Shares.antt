@@ -1,0 +1,31 @@
+-- What is worked out of the part of a key that begins at a grid row: the shares of that grid row, or any stretch of their bytes. Open one
+-- wants the stretch of one cell, Open all the cells of a grid row that are below N. Quotations are document 01's.
+-- Assumes nothing: these are definitions.
+use mathlib.Core.Bool.{cond}
+use mathlib.Core.List.{List, _++_}
+use Prim.Native.Nat.{ℕ, zero, suc, _+_, _*_, _/_, _%_}
+use lib.ListN.{length, getD, take, drop}
+use Rattle.xor.specs.Xor.{xors, zeros}
+use Rattle.grid.specs.Grid.{bit}
+
+-- n bytes of a row or of a word, from byte s on; "cell c of a row or word is the w bytes from c × w on"
+unfoldable pub stretch : (s n : ℕ) → List ℕ → List ℕ
+stretch s n xs = take n (drop s xs)
+
+-- "the XOR, over the columns that the player's mark has in that grid row, of word and row", of these the bytes from s on, n of them. The
+-- part begins with the marks of J columns and the held seeds; its words begin at byte `words` and have `long` bytes, as the rows have.
+-- `seen` counts marked columns
+unfoldable pub shares-from : (left j seen : ℕ) → (rule : List ℕ → List ℕ) → (part : List ℕ) → (J words long s n : ℕ) → List ℕ → List ℕ
+shares-from zero j q f ps J w l s n xs = xs
+shares-from (suc k) j q f ps J w l s n xs =
+    let seed = take 32 (drop ((J + 7) / 8 + 32 * q) ps) in
+    let one = xors (stretch s n (take l (drop (w + j * l) ps))) (stretch s n (f seed)) in
+    cond (bit (getD ps (j / 8) 0) (j % 8)) (shares-from k (suc j) (suc q) f ps J w l s n (xors xs one))
+    (shares-from k (suc j) q f ps J w l s n xs)
+
+unfoldable pub shares : (rule : List ℕ → List ℕ) → (part : List ℕ) → (J words long s n : ℕ) → List ℕ
+shares f ps J w l s n = shares-from J 0 0 f ps J w l s n (zeros n)
+
+-- "output past the bytes named keeps its bytes"
+unfoldable pub in-front : (new old : List ℕ) → List ℕ
+in-front new old = new ++ drop (length new) old

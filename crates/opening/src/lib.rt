@@ -1,0 +1,42 @@
+// Opening a key, behind the refusals: one square from the part of the key that begins at its grid row, and the full table grid row by
+// grid row.
+ghost use mathlib.Core.Path.{_≡_};
+ghost use Prim.Native.Nat.{_+_, _*_, _-_, _/_, _%_, _≤_, _<_};
+ghost use lib.ListN.{length, getD};
+ghost use Rattle.xor.specs.Xor.{xors, zeros};
+ghost use Rattle.grid.specs.Grid.{bit};
+ghost use Rattle.chacha20.specs.Expand.{expand};
+ghost use Rattle.keys.specs.Keys.{count-marks};
+ghost use Rattle.opening.specs.Shares.{stretch, shares};
+
+// Makes every byte zero.
+fn clear(out: &mut [u8])
+    ensures { λ r. ⌜ now (out .exit) ≡ zeros (length (now (out .entry))) ⌝ }
+{
+    let mut place: usize = 0;
+    while place < out.len() {
+        out[place] = 0;
+        place += 1;
+    }
+}
+
+// Whether a column is marked in a part that begins at a grid row.
+fn marked(part: &[u8], column: usize) -> bool
+    requires { ⌜ column / 8 < length (now part) ⌝ }
+    ensures { λ r. ⌜ r ≡ bit (getD (now (part .entry)) (column / 8) 0) (column % 8) ⌝ }
+{
+    let byte = part[column / 8] as u32;
+    (byte >> (column % 8)) % 2 == 1
+}
+
+// XORs into `out` what a column gives from byte `from` on: its word, and the row of its seed. The row is expanded into `row`, which is
+// scratch: its bytes afterwards count for nothing.
+fn add_column(seed: &[u8], word: &[u8], from: usize, row: &mut [u8], out: &mut [u8])
+    requires { ⌜ (length (now seed) ≡ 32) × (length (now row) ≤ 4096) × (length (now word) ≡ length (now row)) × (from + length (now out) ≤ length (now row)) ⌝ }
+    ensures { λ r. ⌜ now (out .exit) ≡ xors (now (out .entry)) (xors (stretch from (length (now (out .entry))) (now (word .entry))) (stretch from (length (now (out .entry))) (expand (length (now (row .entry))) (now (seed .entry))))) ⌝ }
+{
+    chacha20::expand(seed, row);
+    let end = from + out.len();
+    xor::xor_into(out, &word[from..end]);
+    xor::xor_into(out, &row[from..end]);
+}
