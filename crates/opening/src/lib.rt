@@ -40,3 +40,27 @@ fn add_column(seed: &[u8], word: &[u8], from: usize, row: &mut [u8], out: &mut [
     xor::xor_into(out, &word[from..end]);
     xor::xor_into(out, &row[from..end]);
 }
+
+// Fills `out` with the shares of the grid row at which the part begins, from byte `from` on, under the player's marks: the XOR, over the
+// marked columns, of word and row. The words begin at `words`. `row` has a row's length and is scratch.
+fn open_part(part: &[u8], columns: usize, words: usize, from: usize, row: &mut [u8], out: &mut [u8])
+    requires { ⌜ ((columns + 7) / 8 + 16 * columns ≤ words) × (words + columns * length (now row) ≤ length (now part)) × (count-marks columns 0 (now part) ≡ columns / 2) × (length (now row) ≤ 4096) × (from + length (now out) ≤ length (now row)) ⌝ }
+    ensures { λ r. ⌜ now (out .exit) ≡ shares (expand (length (now (row .entry)))) (now (part .entry)) columns words (length (now (row .entry))) from (length (now (out .entry))) ⌝ }
+{
+    clear(out);
+    let seeds = (columns + 7) / 8;
+    let row_bytes = row.len();
+    let mut held: usize = 0;
+    let mut column: usize = 0;
+    while column < columns {
+        if marked(part, column) {
+            let seed = seeds + 32 * held;
+            let seed_end = seed + 32;
+            let word = words + column * row_bytes;
+            let word_end = word + row_bytes;
+            add_column(&part[seed..seed_end], &part[word..word_end], from, row, out);
+            held += 1;
+        }
+        column += 1;
+    }
+}
