@@ -7,7 +7,17 @@ use Prim.Native.Nat.{ℕ, zero, suc, _+_, _*_, _-_, _/_, _%_, _^_, _≤_, _<_, m
 use lib.Dec.{ltb, leb, eqb}
 use lib.ListN.{length, getD, set, take, drop, replicate}
 use Rattle.xor.specs.Xor.{bytes-good, zeros}
-use Rattle.grid.specs.Grid.{Board, columns, grid-rows, row-long, Dealing, dealing-good, joined-from, Held, held, unheld}
+use Rattle.grid.specs.Grid.{Board, columns, grid-rows, row-long, bit, is-odd, same-parity, Dealing, dealing-good, joined-from, Held, held, unheld}
+
+-- THE DEALING THAT HIDING FINDS, as a function of the first one
+
+-- player i's mark the other way round
+unfoldable pub turned : (column player : ℕ) → ℕ
+turned c i = cond (bit c i) (c - 2 ^ i) (c + 2 ^ i)
+
+-- the column of a wanted parity that everybody else marks alike: nothing changes where the parity already fits
+unfoldable pub mended : (odd : Bool) → (column player : ℕ) → ℕ
+mended o c i = cond (same-parity (is-odd c) o) c (turned c i)
 
 -- HIDING: with rows freely drawn, whichever player is left out, just one dealing has a named point, value and chosen rows and gives everybody else the same
 unfoldable pub Same-for-others : Board → (player : ℕ) → (d e : Dealing) → Type 0

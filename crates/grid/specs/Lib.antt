@@ -1,3 +1,5 @@
+pub mod Arrays
 pub mod Grid
 pub mod Hiding
+pub mod Joining
 pub mod Width

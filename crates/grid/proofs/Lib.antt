@@ -1,0 +1,9 @@
+pub mod Arrays
+pub mod Cells
+pub mod Columns
+pub mod Facts
+pub mod Joining
+pub mod LastWord
+pub mod Marks
+pub mod Pigeonhole
+pub mod Sums

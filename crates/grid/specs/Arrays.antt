@@ -1,0 +1,44 @@
+-- What an accepted array is, as theorems: document 01, "The board as a grid" and "What demand 3 speaks of". Each statement is a type whose
+-- proof is owed, for all numbers of players from 2 to 8 at once; boards have 2 to 6. Assumes nothing.
+use mathlib.Core.Path.{_≡_}
+use mathlib.Core.Bool.{Bool, true, false, cond}
+use mathlib.Core.List.{List, [], _∷_}
+use Prim.Native.Nat.{ℕ, zero, suc, _+_, _*_, _/_, _^_, _≤_, _<_}
+use lib.ListN.{length, getD}
+use Rattle.grid.specs.Grid.{Board, columns, grid-rows, bit, Dealing, column, is-odd, array-good, dealing-good, unheld-from}
+
+-- an array that Deal accepts for a grid row of this parity
+pub record Accepted (b : Board) (odd : Bool) (cs : List ℕ) : Type 0 where
+  pub players-least : 2 ≤ b .p
+  pub players-most : b .p ≤ 8
+  pub long : length cs ≡ columns b
+  pub good : array-good b odd cs ≡ true
+
+-- "An even array holds every column of p bits with an even count of ones exactly once; an odd array every column with an odd count."
+unfoldable pub Each-column-once : Type 0
+Each-column-once =
+    (b : Board) (odd : Bool) (cs : List ℕ) → Accepted b odd cs → (c : ℕ) → c < 2 ^ b .p → is-odd c ≡ odd →
+    (j : ℕ) × (j < columns b) × (getD cs j 0 ≡ c) × ((k : ℕ) → k < columns b → getD cs k 0 ≡ c → k ≡ j)
+
+-- how many columns of an array a player marks
+unfoldable pub marked : (player : ℕ) → List ℕ → ℕ
+marked i [] = 0
+marked i (c ∷ cs) = cond (bit c i) 1 0 + marked i cs
+
+-- "A player marks exactly J/2 columns."
+unfoldable pub Half-is-marked : Type 0
+Half-is-marked =
+    (b : Board) (odd : Bool) (cs : List ℕ) → Accepted b odd cs → (i : ℕ) → i < b .p → marked i cs ≡ columns b / 2
+
+-- no player but one marks a column
+unfoldable pub Left-alone : Board → (player column : ℕ) → Type 0
+Left-alone b i c = (k : ℕ) → k < b .p → (k ≡ i → ⊥) → bit c k ≡ false
+
+-- "Each grid row has exactly one row not so held": the column that `unheld-from` finds is the one that nobody else marks, so its falling
+-- back to column 0 is never used
+unfoldable pub One-row-unheld : Type 0
+One-row-unheld =
+    (b : Board) (d : Dealing) (i g : ℕ) → dealing-good b d ≡ true → i < b .p → g < grid-rows b →
+    (unheld-from (columns b) 0 b i (d .arrays) g < columns b)
+    × Left-alone b i (column b (d .arrays) g (unheld-from (columns b) 0 b i (d .arrays) g))
+    × ((k : ℕ) → k < columns b → Left-alone b i (column b (d .arrays) g k) → k ≡ unheld-from (columns b) 0 b i (d .arrays) g)
