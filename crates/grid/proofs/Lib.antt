@@ -1,9 +1,16 @@
+pub mod Accepted
 pub mod Arrays
 pub mod Cells
+pub mod Checking
 pub mod Columns
+pub mod Counting
 pub mod Facts
 pub mod Joining
 pub mod LastWord
 pub mod Marks
 pub mod Pigeonhole
 pub mod Sums
+pub mod Powers
+pub mod Sensors
+pub mod Table
+pub mod Widths

@@ -1,3 +1,5 @@
 pub mod Keys
 pub mod Promise
 pub mod Document03
+pub mod Answers
+pub mod Held

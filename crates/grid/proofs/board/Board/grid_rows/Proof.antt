@@ -1,0 +1,22 @@
+-- `Board::grid_rows` meets its contract: an accepted board's positions and width are in their ranges.
+-- Assumes nothing.
+use borrow.Author.Needs.{needs}
+use Rattle.grid.specs.Grid.{board, grid-rows}
+use Rattle.grid.proofs.Accepted.{accepted}
+use Rattle.grid.proofs.board.Board.grid_rows.Statement.{statement}
+use Rattle.grid.proofs.board.Board.grid_rows.Tie as tie
+
+rows-for-requires : tie.Need-rows-for-requires
+unfolding board
+rows-for-requires c κs =
+    let a = accepted _ (c .pre) in (a .positions-most, a .width-least, a .width-most)
+
+cast-result : tie.Need-cast-result
+cast-result c = search needs
+
+returns : tie.Need-returns
+unfolding board grid-rows
+returns c = c .rows-for .ensures
+
+pub grid-rows-spec : {M : Type 1} → statement M
+grid-rows-spec = tie.close (tie.spec rows-for-requires cast-result returns)

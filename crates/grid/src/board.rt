@@ -1,0 +1,107 @@
+// A board: how many players, positions, cells of a grid row and bytes of a value. Which boards are refused, and by which number;
+// and how many columns and grid rows an accepted one has, and how long its rows are.
+ghost use mathlib.Core.Path.{_≡_};
+ghost use mathlib.Core.Bool.{_&&_};
+ghost use Prim.Native.Nat.{_+_, _-_, _/_, _^_, _≤_};
+ghost use lib.Dec.{leb};
+ghost use Rattle.grid.specs.Grid.{board-refusal, columns, grid-rows, row-long};
+ghost use Rattle.grid.specs.Code.{board-of};
+
+pub const LEAST_PLAYERS: u32 = 2;
+
+pub const MOST_PLAYERS: u32 = 6;
+
+pub const MOST_POSITIONS: u32 = 65536;
+
+pub const MOST_WIDTH: u32 = 256;
+
+pub const MOST_VALUE_BYTES: u32 = 16;
+
+pub const MOST_GRID_ROWS: u32 = 256;
+
+pub const ACCEPTED: u32 = 0;
+
+pub const REFUSED_PLAYERS: u32 = 1;
+
+pub const REFUSED_POSITIONS: u32 = 2;
+
+pub const REFUSED_WIDTH: u32 = 3;
+
+pub const REFUSED_VALUE_BYTES: u32 = 4;
+
+pub const REFUSED_GRID_ROWS: u32 = 5;
+
+pub struct Board {
+    pub players: u32,
+    pub positions: u32,
+    pub width: u32,
+    pub value_bytes: u32,
+}
+
+// Whether a number lies in its range.
+fn within(low: u32, number: u32, high: u32) -> bool
+    ensures { λ r. ⌜ r ≡ (leb low number && leb number high) ⌝ }
+{
+    if low <= number { number <= high } else { false }
+}
+
+// Grid rows for so many positions: their number over the width, rounded up.
+fn rows_for(positions: u32, width: u32) -> u32
+    requires { ⌜ (positions ≤ 65536) × (1 ≤ width) × (width ≤ 256) ⌝ }
+    ensures { λ r. ⌜ r ≡ (positions + width - 1) / width ⌝ }
+{
+    (positions + width - 1) / width
+}
+
+// Columns of an array for so many players: two to the power of one player less.
+pub fn columns_for(players: u32) -> u32
+    requires { ⌜ (2 ≤ players) × (players ≤ 6) ⌝ }
+    ensures { λ r. ⌜ r ≡ 2 ^ (players - 1) ⌝ }
+{
+    1 << (players - 1)
+}
+
+impl Board {
+    // The first of 1 to 5 that fits, else 0. Each range is passed before a number is computed from it.
+    pub fn refusal(self) -> u32
+        ensures { λ r. ⌜ r ≡ board-refusal (board-of self) ⌝ }
+    {
+        if !within(LEAST_PLAYERS, self.players, MOST_PLAYERS) {
+            return REFUSED_PLAYERS;
+        }
+        if !within(1, self.positions, MOST_POSITIONS) {
+            return REFUSED_POSITIONS;
+        }
+        if !within(1, self.width, MOST_WIDTH) {
+            return REFUSED_WIDTH;
+        }
+        if !within(1, self.value_bytes, MOST_VALUE_BYTES) {
+            return REFUSED_VALUE_BYTES;
+        }
+        if MOST_GRID_ROWS < rows_for(self.positions, self.width) {
+            return REFUSED_GRID_ROWS;
+        }
+        ACCEPTED
+    }
+
+    pub fn columns(self) -> usize
+        requires { ⌜ board-refusal (board-of self) ≡ 0 ⌝ }
+        ensures { λ r. ⌜ r ≡ columns (board-of self) ⌝ }
+    {
+        columns_for(self.players) as usize
+    }
+
+    pub fn grid_rows(self) -> usize
+        requires { ⌜ board-refusal (board-of self) ≡ 0 ⌝ }
+        ensures { λ r. ⌜ r ≡ grid-rows (board-of self) ⌝ }
+    {
+        rows_for(self.positions, self.width) as usize
+    }
+
+    pub fn row_length(self) -> usize
+        requires { ⌜ board-refusal (board-of self) ≡ 0 ⌝ }
+        ensures { λ r. ⌜ r ≡ row-long (board-of self) ⌝ }
+    {
+        (self.width * self.value_bytes) as usize
+    }
+}

@@ -1,0 +1,35 @@
+-- The answers of the readers and of the check of a key: what each case of an enum says, in document 03's words.
+-- Assumes nothing: these are definitions.
+use mathlib.Core.Path.{_≡_}
+use mathlib.Core.Bool.{Bool, true, false, cond}
+use mathlib.Core.List.{List, [], _∷_}
+use Prim.Native.Nat.{ℕ, _-_}
+use lib.ListN.{length, drop}
+use Rattle.keys.specs.Keys.{Got, number-in, Head, head-in}
+use Rattle.keys.specs.declared.reader.Reader.{Reader}
+use Rattle.keys.specs.declared.reader.Number.{Number}
+use Rattle.keys.specs.declared.reader.Header.{Header}
+use Rattle.keys.specs.declared.reader.Heading.{Heading}
+
+-- "The header reader gives back a number and itself moved on": what was read, in a key of so many bytes, with the place where the rest begins
+unfoldable pub number-of : (long : ℕ) → Got → Number
+number-of l g =
+    cond (g .good) (Number.Whole (g .value) (record { at = l - length (g .rest) })) Number.Broken
+
+-- the number that stands at a place of a key
+unfoldable pub number-at : (key : List ℕ) → (at : ℕ) → Number
+number-at ks at = number-of (length ks) (number-in (drop at ks))
+
+-- "The header is p, player, N, μ, w"
+unfoldable pub header-of : Head → Header
+header-of h =
+    record {
+      board = record { players = h .board .p; positions = h .board .n; width = h .board .wide; «value_bytes» = h .board .w };
+      player = h .player;
+    }
+
+-- the header that a key begins with, with the place where the rest begins
+unfoldable pub heading-in : (key : List ℕ) → Heading
+heading-in ks =
+    let h = head-in ks in
+    cond (h .good) (Heading.Whole (header-of h) (record { at = length ks - length (h .rest) })) Heading.Broken

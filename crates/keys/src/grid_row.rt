@@ -1,0 +1,54 @@
+// A grid row of a key: the part of the key that begins at it, its marks, and the seeds of its marked columns.
+// A mark that stands past the end of the part counts as zero, so that these functions ask nothing of the part's length.
+use crate::reader::byte;
+ghost use mathlib.Core.Path.{_≡_};
+ghost use Prim.Native.Nat.{_+_, _*_, _-_, _≤_};
+ghost use lib.ListN.{length, take, drop};
+ghost use Rattle.keys.specs.Keys.{count-marks};
+ghost use Rattle.keys.specs.Held.{marked};
+
+// Bytes of a seed.
+pub const SEED_BYTES: usize = 32;
+
+// The part of a key that begins at a place, and an empty one past the end.
+pub fn part_from(key: &[u8], from: usize) -> &[u8]
+    ensures { λ r. ⌜ now r ≡ drop from (now (key .entry)) ⌝ }
+{
+    if from <= key.len() {
+        &key[from..]
+    } else {
+        &key[..0]
+    }
+}
+
+// A column's mark: bit j mod 8 of byte j div 8.
+pub fn mark(part: &[u8], column: usize) -> bool
+    ensures { λ r. ⌜ r ≡ marked (now (part .entry)) column ⌝ }
+{
+    let marks = byte(part, column / 8);
+    (marks >> (column % 8)) % 2 == 1
+}
+
+// Marked columns from one column to another, without that one.
+pub fn marks_between(part: &[u8], from: usize, until: usize) -> usize
+    ensures { λ r. ⌜ r ≡ count-marks (until - from) from (now (part .entry)) ⌝ }
+{
+    let mut count: usize = 0;
+    let mut column = from;
+    while column < until {
+        if mark(part, column) {
+            count += 1;
+        }
+        column += 1;
+    }
+    count
+}
+
+// The seed that stands behind the marks and so many other seeds.
+pub fn seed_after(part: &[u8], marks: usize, seeds: usize) -> &[u8]
+    requires { ⌜ marks + 32 * seeds + 32 ≤ length (now part) ⌝ }
+    ensures { λ r. ⌜ now r ≡ take 32 (drop (marks + 32 * seeds) (now (part .entry))) ⌝ }
+{
+    let from = marks + SEED_BYTES * seeds;
+    &part[from..from + SEED_BYTES]
+}
