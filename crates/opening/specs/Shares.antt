@@ -3,10 +3,10 @@
 -- Assumes nothing: these are definitions.
 use mathlib.Core.Bool.{cond}
 use mathlib.Core.List.{List, _++_}
-use Prim.Native.Nat.{ℕ, zero, suc, _+_, _*_, _/_, _%_}
-use lib.ListN.{length, getD, take, drop}
+use Prim.Native.Nat.{ℕ, zero, suc, _+_, _*_, _/_}
+use lib.ListN.{length, take, drop}
 use Rattle.xor.specs.Xor.{xors, zeros}
-use Rattle.grid.specs.Grid.{bit}
+use Rattle.keys.specs.Held.{marked}
 
 -- n bytes of a row or of a word, from byte s on; "cell c of a row or word is the w bytes from c × w on"
 unfoldable pub stretch : (s n : ℕ) → List ℕ → List ℕ
@@ -20,7 +20,7 @@ shares-from zero j q f ps J w l s n xs = xs
 shares-from (suc k) j q f ps J w l s n xs =
     let seed = take 32 (drop ((J + 7) / 8 + 32 * q) ps) in
     let one = xors (stretch s n (take l (drop (w + j * l) ps))) (stretch s n (f seed)) in
-    cond (bit (getD ps (j / 8) 0) (j % 8)) (shares-from k (suc j) (suc q) f ps J w l s n (xors xs one))
+    cond (marked ps j) (shares-from k (suc j) (suc q) f ps J w l s n (xors xs one))
     (shares-from k (suc j) q f ps J w l s n xs)
 
 unfoldable pub shares : (rule : List ℕ → List ℕ) → (part : List ℕ) → (J words long s n : ℕ) → List ℕ

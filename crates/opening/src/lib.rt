@@ -1,10 +1,11 @@
 // Opening a key, behind the refusals: one square from the part of the key that begins at its grid row, and the full table grid row by
 // grid row.
+use keys::grid_row::mark;
+use keys::grid_row::seed_after;
 ghost use mathlib.Core.Path.{_≡_};
 ghost use Prim.Native.Nat.{_+_, _*_, _-_, _/_, _%_, _≤_, _<_};
 ghost use lib.ListN.{length, getD};
 ghost use Rattle.xor.specs.Xor.{xors, zeros};
-ghost use Rattle.grid.specs.Grid.{bit};
 ghost use Rattle.chacha20.specs.Expand.{expand};
 ghost use Rattle.keys.specs.Keys.{count-marks};
 ghost use Rattle.opening.specs.Shares.{stretch, shares};
@@ -18,15 +19,6 @@ fn clear(out: &mut [u8])
         out[place] = 0;
         place += 1;
     }
-}
-
-// Whether a column is marked in a part that begins at a grid row.
-fn marked(part: &[u8], column: usize) -> bool
-    requires { ⌜ column / 8 < length (now part) ⌝ }
-    ensures { λ r. ⌜ r ≡ bit (getD (now (part .entry)) (column / 8) 0) (column % 8) ⌝ }
-{
-    let byte = part[column / 8] as u32;
-    (byte >> (column % 8)) % 2 == 1
 }
 
 // XORs into `out` what a column gives from byte `from` on: its word, and the row of its seed. The row is expanded into `row`, which is
@@ -53,12 +45,10 @@ fn open_part(part: &[u8], columns: usize, words: usize, from: usize, row: &mut [
     let mut held: usize = 0;
     let mut column: usize = 0;
     while column < columns {
-        if marked(part, column) {
-            let seed = seeds + 32 * held;
-            let seed_end = seed + 32;
+        if mark(part, column) {
             let word = words + column * row_bytes;
             let word_end = word + row_bytes;
-            add_column(&part[seed..seed_end], &part[word..word_end], from, row, out);
+            add_column(seed_after(part, seeds, held), &part[word..word_end], from, row, out);
             held += 1;
         }
         column += 1;

@@ -10,15 +10,17 @@ use mathlib.Core.Bool.{true}
 use mathlib.Core.Logic.{⊎-elim}
 use Rattle.chacha20.specs.Expand.{expand}
 use Rattle.keys.specs.Keys.{count-marks}
+use Rattle.keys.specs.Held.{marked}
 use Rattle.opening.specs.Shares.{stretch, shares, shares-from}
-use Rattle.opening.proofs.Columns.{word-within, part-long, count-start, marked-at, shares-start, shares-end, seed-held, count-marked, count-unmarked, marked-turn, unmarked-turn}
+use Rattle.opening.proofs.Columns.{word-within, part-long, count-start, seed-whole, shares-start, shares-end, seed-held, count-marked, count-unmarked, marked-turn, unmarked-turn}
 use Rattle.opening.proofs.open_part.Statement.{statement}
 use Rattle.opening.proofs.open_part.Tie as tie
 use Rattle.opening.proofs.open_part.Reads as reads
 use Rattle.opening.proofs.open_part.Lts as lts
 use Rattle.opening.proofs.add_column.Reads as add-column-reads
 use Rattle.opening.proofs.clear.Reads as clear-reads
-use Rattle.opening.proofs.marked.Reads as marked-reads
+use Rattle.keys.proofs.grid_row.mark.Reads as mark-reads
+use Rattle.keys.proofs.grid_row.seed_after.Reads as seed-after-reads
 
 abbrev Inv-loop : tie.InvT-loop
 Inv-loop part columns words from row₀ out₀ seeds row-bytes held₀ column₀ row out held column =
@@ -50,8 +52,8 @@ word-room c =
     let s = start-of-loop (c .before .before) in
     word-within (s .args .words) (c .before .loop .column) (s .args .columns) (length (now (s .args .row))) (length (now (s .args .part))) (c .loop-test .taken) (s .pre .1)
 
-marked-here : (c : tie.Then1 Inv-loop μ-loop) → marked-at (now (start-of-loop (c .before .before .before .before) .args .part)) (c .before .before .before .loop .column) ≡ true
-marked-here c = sym (c .before .marked .ensures) ∙ c .if1 .taken
+marked-here : (c : tie.Then1 Inv-loop μ-loop) → marked (now (start-of-loop (c .before .before .before .before) .args .part)) (c .before .before .before .loop .column) ≡ true
+marked-here c = sym (c .before .mark .ensures) ∙ c .if1 .taken
 
 seed-room : (c : tie.Then1 Inv-loop μ-loop) → let a = start-of-loop (c .before .before .before .before) .args in
     (a .columns + 7) / 8 + 32 * c .before .before .before .loop .held + 32 ≤ length (now (a .part))
@@ -61,17 +63,8 @@ seed-room c =
     let held = seed-held (now (s .args .part)) (s .args .columns) (l .column) (l .held) (c .before .before .loop-test .taken) (l .inv .1) (marked-here c) in
     omega (arith, held, s .pre .0, s .pre .1)
 
-marked-requires : tie.Need-marked-requires Inv-loop μ-loop
-marked-requires c κs = omega arith
-
-mul-seed : tie.Need-mul-seed Inv-loop μ-loop
-mul-seed c = omega arith
-
-add-seed : tie.Need-add-seed Inv-loop μ-loop
-add-seed c = omega arith
-
-add-seed-end : tie.Need-add-seed-end Inv-loop μ-loop
-add-seed-end c = omega arith
+mark-requires : tie.Need-mark-requires Inv-loop μ-loop
+mark-requires c κs = omega arith
 
 mul-word : tie.Need-mul-word Inv-loop μ-loop
 mul-word c = omega (arith, word-room (c .before .before))
@@ -82,6 +75,9 @@ add-word c = omega (arith, word-room (c .before .before))
 add-word-end : tie.Need-add-word-end Inv-loop μ-loop
 add-word-end c = omega (arith, word-room (c .before .before))
 
+seed-after-requires : tie.Need-seed-after-requires Inv-loop μ-loop
+seed-after-requires c κs = seed-room c
+
 sub-add-column : tie.Need-sub-add-column Inv-loop μ-loop
 sub-add-column c = omega arith
 
@@ -89,19 +85,13 @@ part-add-column-start : tie.Need-part-add-column-start Inv-loop μ-loop
 part-add-column-start c = omega arith
 
 part-add-column-end : tie.Need-part-add-column-end Inv-loop μ-loop
-part-add-column-end c = seed-room c
-
-sub-add-column-2 : tie.Need-sub-add-column-2 Inv-loop μ-loop
-sub-add-column-2 c = omega arith
-
-part-add-column-start-2 : tie.Need-part-add-column-start-2 Inv-loop μ-loop
-part-add-column-start-2 c = omega arith
-
-part-add-column-end-2 : tie.Need-part-add-column-end-2 Inv-loop μ-loop
-part-add-column-end-2 c = omega (arith, word-room (c .before .before .before))
+part-add-column-end c = omega (arith, word-room (c .before .before .before))
 
 add-column-requires : tie.Need-add-column-requires Inv-loop μ-loop
-add-column-requires c κs = omega arith
+add-column-requires c κs =
+    let t = c .before .before .before in
+    let s = start-of-loop (t .before .before .before .before .before) in
+    (seed-whole _ (now (s .args .part)) _ (t .seed-after .ensures) (seed-room (t .before)), omega arith, omega arith, omega arith)
 
 add-held : tie.Need-add-held Inv-loop μ-loop
 add-held c = omega arith
@@ -124,10 +114,10 @@ loop-again c =
       count-marked (now (s .args .part)) (s .args .columns) (l .column) (l .held) within (l .inv .1) (c .if1 .held) m (w .12),
       ap length (w .10) ∙ w .5 .kept .1 .1 .1 .0 ∙ l .inv .2, ap length (w .11) ∙ w .5 .kept .1 .1 .1 .1 .0 ∙ l .inv .3,
       marked-turn expand (now (s .args .part)) (s .args .columns) (s .args .words) (length (now (s .args .row))) (s .args .from) _ (l .column) (l .held) within (l .out) _
-      (l .inv .4) (c .if1 .out) (c .if1 .held) _ _ _ m (l .inv .2) (part-long ((s .args .columns + 7) / 8 + 32 * l .held) 32)
+      (l .inv .4) (c .if1 .out) (c .if1 .held) _ _ _ m (l .inv .2) (w .1 .ensures)
       (part-long (s .args .words + l .column * length (now (s .args .row))) (length (now (s .args .row)))) (l .inv .3) (w .12) (w .11 ∙ w .5 .ensures)))
     (λ w.
-      let m = sym (c .before .marked .ensures) ∙ w .0 .left in
+      let m = sym (c .before .mark .ensures) ∙ w .0 .left in
       (omega arith,
       count-unmarked (now (s .args .part)) (s .args .columns) (l .column) (l .held) within (l .inv .1) (c .if1 .held) m (w .3),
       ap length (w .1) ∙ l .inv .2, ap length (w .2) ∙ l .inv .3,
@@ -159,19 +149,14 @@ open-part-spec =
     clear-requires
     add-seeds
     loop-holds
-    marked-requires
-    mul-seed
-    add-seed
-    add-seed-end
+    mark-requires
     mul-word
     add-word
     add-word-end
+    seed-after-requires
     sub-add-column
     part-add-column-start
     part-add-column-end
-    sub-add-column-2
-    part-add-column-start-2
-    part-add-column-end-2
     add-column-requires
     add-held
     add-column
