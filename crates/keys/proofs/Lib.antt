@@ -8,3 +8,4 @@ pub mod Accepted
 pub mod Reading
 pub mod Counting
 pub mod Lengths
+pub mod Opening

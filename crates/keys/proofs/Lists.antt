@@ -6,11 +6,11 @@ use Prim.Native.Nat.{ℕ, zero, suc, _+_, _*_, _-_, _≤_, _<_}
 use native.Mathlib.Nat.{mul-le-mul-right}
 use native.Mathlib.Omega.{arith}
 use lib.Dec.{eqb}
-use lib.ListN.{length, getD, take, drop, length-append, length-drop, take-append-drop, length-take}
+use lib.ListN.{length, getD, take, drop, length-append, length-drop, take-append-drop, length-take, replicate, replicate-append-replicate}
 use lib.Seq.{take-add, drop-drop, take-nil, drop-nil, take-at, drop-at, take-append-le, take-all, drop-append-add, drop-cons, length-take-le, getD-drop}
 use borrow.Author.Tests.{eqb-true, eq-eqb}
-use Rattle.xor.specs.Xor.{bytes-good}
-use Rattle.xor.proofs.Laws.{Word, word-take, word-drop, good-append, good-take, good-drop, and-left, and-right, and-both}
+use Rattle.xor.specs.Xor.{xors, zeros, bytes-good}
+use Rattle.xor.proofs.Laws.{Word, word-take, word-drop, good-append, good-take, good-drop, append-xors, and-left, and-right, and-both}
 use Rattle.grid.specs.Grid.{each-long}
 use Rattle.keys.specs.Keys.{glued, words-from}
 
@@ -90,11 +90,6 @@ each-take l zero xs p = refl
 each-take l (suc m) [] p = refl
 each-take l (suc m) (x ∷ xs) p = each-cons l x (take m xs) (each-head l x xs p) (each-take l m xs (each-tail l x xs p))
 
-pub each-at : (l j : ℕ) (xs : List (List ℕ)) → each-long l xs ≡ true → j < length xs → Word l (getD xs j [])
-each-at l j [] p h = let none : ⊥ = omega arith in absurd none
-each-at l zero (x ∷ xs) p h = each-head l x xs p
-each-at l (suc j) (x ∷ xs) p h = each-at l j xs (each-tail l x xs p) (omega arith)
-
 -- a long enough string of bytes is cut into words
 pub each-words : (k l : ℕ) (bs : List ℕ) → k * l ≤ length bs → bytes-good bs ≡ true → each-long l (words-from k l bs) ≡ true
 unfolding words-from each-long
@@ -125,3 +120,57 @@ words-glue (suc k) l (w ∷ ws) rest e h =
     let long = each-head l w ws h .long in
     rw (append-assoc w (glued ws) rest, take-at w (glued ws ++ rest) l long, drop-at w (glued ws ++ rest) l long)
     (ap (λ (vs : List (List ℕ)). w ∷ vs) (words-glue k l ws rest (omega arith) (each-tail l w ws h)))
+
+-- STRINGS IN A ROW: F i, F (i + 1), .. one after another, k of them
+
+unfoldable pub in-a-row : (left i : ℕ) → (F : ℕ → List ℕ) → List ℕ
+in-a-row zero i F = []
+in-a-row (suc k) i F = F i ++ in-a-row k (suc i) F
+
+pub row-same : (k i : ℕ) (F G : ℕ → List ℕ) → ((j : ℕ) → i ≤ j → j < i + k → F j ≡ G j) → in-a-row k i F ≡ in-a-row k i G
+unfolding in-a-row
+row-same zero i F G h = refl
+row-same (suc k) i F G h = rw (h i (omega arith) (omega arith), row-same k (suc i) F G (λ j p q. h j (omega arith) (omega arith)))
+
+-- strings of one length make a string of k times that length
+pub row-word : (l k i : ℕ) (F : ℕ → List ℕ) → ((j : ℕ) → i ≤ j → j < i + k → Word l (F j)) → Word (k * l) (in-a-row k i F)
+unfolding in-a-row bytes-good
+row-word l zero i F h = record { long = omega arith; good = refl }
+row-word l (suc k) i F h =
+    let first = h i (omega arith) (omega arith) in
+    let others = row-word l k (suc i) F (λ j p q. h j (omega arith) (omega arith)) in
+    record {
+      long = length-append (F i) (in-a-row k (suc i) F) ∙ omega (arith, first .long, others .long);
+      good = good-append (F i) (in-a-row k (suc i) F) (first .good) (others .good);
+    }
+
+-- and are found again by their place
+pub row-at : (l k i m : ℕ) (F : ℕ → List ℕ) → ((j : ℕ) → i ≤ j → j < i + k → length (F j) ≡ l) → m < k → take l (drop (m * l) (in-a-row k i F)) ≡ F (i + m)
+unfolding in-a-row
+row-at l zero i m F h p = let none : ⊥ = omega arith in absurd none
+row-at l (suc k) i zero F h p =
+    let none : zero * l ≡ zero = omega arith in
+    let here : i + zero ≡ i = omega arith in
+    rw (none, here) (take-at (F i) (in-a-row k (suc i) F) l (h i (omega arith) (omega arith)))
+row-at l (suc k) i (suc m) F h p =
+    let next : suc m * l ≡ l + m * l = omega arith in
+    let later : i + suc m ≡ suc i + m = omega arith in
+    rw (next, later, ← drop-drop (m * l) l (F i ++ in-a-row k (suc i) F), drop-at (F i) (in-a-row k (suc i) F) l (h i (omega arith) (omega arith)))
+    (row-at l k (suc i) m F (λ j a b. h j (omega arith) (omega arith)) (omega arith))
+
+-- XOR goes string by string
+pub row-xors : (l k i : ℕ) (F G : ℕ → List ℕ) → ((j : ℕ) → i ≤ j → j < i + k → (length (F j) ≡ l) × (length (G j) ≡ l)) →
+    xors (in-a-row k i F) (in-a-row k i G) ≡ in-a-row k i (λ j. xors (F j) (G j))
+unfolding in-a-row xors
+row-xors l zero i F G h = refl
+row-xors l (suc k) i F G h =
+    let first = h i (omega arith) (omega arith) in
+    append-xors (F i) (G i) (in-a-row k (suc i) F) (in-a-row k (suc i) G) (first .0 ∙ sym (first .1))
+    ∙ ap (λ (r : List ℕ). xors (F i) (G i) ++ r) (row-xors l k (suc i) F G (λ j p q. h j (omega arith) (omega arith)))
+
+pub row-zeros : (l k i : ℕ) → in-a-row k i (λ j. zeros l) ≡ zeros (k * l)
+unfolding in-a-row zeros
+row-zeros l zero i = let none : zero * l ≡ zero = omega arith in rw none
+row-zeros l (suc k) i =
+    let first : suc k * l ≡ l + k * l = omega arith in
+    rw (row-zeros l k (suc i), first) (replicate-append-replicate l (k * l) 0)

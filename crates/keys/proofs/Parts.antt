@@ -189,7 +189,7 @@ rows-word (suc k) b ms ss f r =
 -- READ AND WRITTEN AGAIN
 
 -- a grid row's test
-row-tests : (k : ℕ) (b : Board) (bs : List ℕ) → marks-good (suc k) b bs ≡ true →
+pub row-tests : (k : ℕ) (b : Board) (bs : List ℕ) → marks-good (suc k) b bs ≡ true →
     (count-marks (columns b) 0 bs ≡ columns b / 2) × (spare-from (8 * mark-bytes b - columns b) (columns b) bs ≡ true) × (marks-good k b (drop (stride b) bs) ≡ true)
 unfolding marks-good
 row-tests k b bs h =
