@@ -1,13 +1,19 @@
 -- How long numbers, headers and keys are. Assumes nothing.
 use mathlib.Core.Path.{_≡_, refl, ap}
-use Prim.Native.Nat.{ℕ, suc, _+_, _/_, _%_, _≤_, _<_}
+use Prim.Native.Nat.{ℕ, suc, _+_, _*_, _/_, _%_, _^_, _≤_, _<_}
 use native.Mathlib.Omega.{arith}
 use borrow.Author.Tests.{le-ltb}
 use lib.Dec.{ltb}
 use mathlib.Core.Bool.{Bool, true, false, cond}
 use mathlib.Core.List.{List, [], _∷_}
-use lib.ListN.{length}
-use Rattle.keys.specs.Keys.{groups, number-bytes}
+use lib.ListN.{length, length-append}
+use native.Mathlib.Nat.{mul-le-mul}
+use Rattle.grid.specs.Grid.{Board, board-refusal, columns, grid-rows, row-long}
+use Rattle.grid.specs.Code.{board-of}
+use Rattle.grid.proofs.Facts.{board-in, columns-pos, columns-twice, columns-most}
+use Rattle.keys.specs.Keys.{groups, number-bytes, header, mark-bytes, stride}
+use Rattle.keys.specs.Answers.{header-written}
+use Rattle.keys.specs.declared.reader.Header.{Header}
 use Rattle.keys.proofs.Numbers.{one-group, two-groups}
 
 pub one-long : (v : ℕ) → v < 128 → length (number-bytes v) ≡ 1
@@ -25,3 +31,65 @@ three-long v h =
     last : (t : Bool) → suc (suc (length (cond t (v / 128 / 128 ∷ []) ((v / 128 / 128 % 128 + 128) ∷ [])))) ≡ 3
     last true = refl
     last false = refl
+
+-- a number has at most three bytes
+pub number-most : (v : ℕ) → length (number-bytes v) ≤ 3
+unfolding number-bytes groups
+number-most v = go (ltb v 128) (ltb (v / 128) 128) (ltb (v / 128 / 128) 128)
+  where
+    go : (s t u : Bool)
+        → length (cond s (v ∷ [])
+        ((v % 128 + 128) ∷ cond t (v / 128 ∷ []) ((v / 128 % 128 + 128) ∷ cond u (v / 128 / 128 ∷ []) ((v / 128 / 128 % 128 + 128) ∷ [])))) ≤ 3
+    go true t u = omega arith
+    go false true u = omega arith
+    go false false true = omega arith
+    go false false false = omega arith
+
+pub number-short : {r : ℕ} (v : ℕ) → r ≡ length (number-bytes v) → r ≤ 3
+number-short v e = omega (arith, number-most v)
+
+-- a product of two results, where the numbers that they are have it
+pub product-in : {a b x y most : ℕ} → a ≡ x → b ≡ y → x * y ≤ most → a * b ≤ most
+product-in e f h = rw (e, f) h
+
+-- the header's bytes, number by number
+pub header-sum : (b : Board) (i : ℕ)
+    → length (header b i)
+    ≡ length (number-bytes (b .p)) + length (number-bytes i) + length (number-bytes (b .n)) + length (number-bytes (b .wide)) + length (number-bytes (b .w))
+unfolding header
+header-sum b i = simp length-append
+
+pub header-most : (b : Board) (i : ℕ) → length (header b i) ≤ 15
+header-most b i =
+    rw header-sum
+    (omega (arith, number-most (b .p), number-most i, number-most (b .n), number-most (b .wide), number-most (b .w)))
+
+pub header-short : {r : ℕ} (h : Header) → r ≡ length (header-written h) → r ≤ 15
+unfolding header-written
+header-short h e = omega (arith, header-most (board-of (h .board)) (h .player))
+
+-- THE SIZES OF AN ACCEPTED BOARD, so that no product overflows
+module _ (b : Board) (accepted : board-refusal b ≡ 0) where
+  pub columns-in : (1 ≤ columns b) × (columns b ≤ 32)
+  columns-in =
+      let f = board-in b accepted in
+      let low : 0 < columns b = columns-pos b in
+      let twice : 2 ^ b .p ≡ 2 * columns b = columns-twice b f in
+      let most : 2 ^ b .p ≤ 64 = columns-most b f in (omega arith, omega arith)
+
+  pub mark-bytes-in : (1 ≤ mark-bytes b) × (mark-bytes b ≤ 4)
+  unfolding mark-bytes
+  mark-bytes-in = let c = columns-in in (omega arith, omega arith)
+
+  pub stride-in : stride b ≤ 516
+  unfolding stride
+  stride-in = omega (arith, columns-in, mark-bytes-in)
+
+  pub rows-in : grid-rows b * stride b ≤ 132096
+  rows-in = mul-le-mul (board-in b accepted .rows-most) stride-in
+
+  pub words-in : columns b * row-long b ≤ 131072
+  unfolding row-long
+  words-in =
+      let f = board-in b accepted in
+      let row : b .wide * b .w ≤ 4096 = mul-le-mul (f .wide-most) (f .value-most) in mul-le-mul (columns-in .1) row

@@ -230,7 +230,7 @@ read-inside ks at v next e = omega (arith, whole-good (length ks) v next (number
 pub heading-whole : (ks : List ℕ) (p i n m w : ℕ) (next : Reader) → next .at ≤ length ks
     → head-in ks ≡ record { good = true; board = board p n m w; player = i; rest = drop (next .at) ks }
     → Heading.Whole (record { board = record { players = p; positions = n; width = m; «value_bytes» = w }; player = i }) next
-      ≡ heading-in ks
+    ≡ heading-in ks
 unfolding heading-in header-of board
 heading-whole ks p i n m w next inside e =
     let at : length ks - length (drop (next .at) ks) ≡ next .at = omega (arith, length-drop (next .at) ks) in rw (e, at)

@@ -5,7 +5,8 @@ use mathlib.Core.Bool.{Bool, true, false, cond}
 use mathlib.Core.List.{List, [], _∷_}
 use Prim.Native.Nat.{ℕ, _-_}
 use lib.ListN.{length, drop}
-use Rattle.keys.specs.Keys.{Got, number-in, Head, head-in}
+use Rattle.grid.specs.Code.{board-of}
+use Rattle.keys.specs.Keys.{Got, number-in, header, Head, head-in}
 use Rattle.keys.specs.declared.reader.Reader.{Reader}
 use Rattle.keys.specs.declared.reader.Number.{Number}
 use Rattle.keys.specs.declared.reader.Header.{Header}
@@ -27,6 +28,10 @@ header-of h =
       board = record { players = h .board .p; positions = h .board .n; width = h .board .wide; «value_bytes» = h .board .w };
       player = h .player;
     }
+
+-- the bytes that write a header
+unfoldable pub header-written : Header → List ℕ
+header-written h = header (board-of (h .board)) (h .player)
 
 -- the header that a key begins with, with the place where the rest begins
 unfoldable pub heading-in : (key : List ℕ) → Heading

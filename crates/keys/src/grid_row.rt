@@ -1,14 +1,33 @@
 // A grid row of a key: the part of the key that begins at it, its marks, and the seeds of its marked columns.
 // A mark that stands past the end of the part counts as zero, so that these functions ask nothing of the part's length.
 use crate::reader::byte;
+use grid::board::Board;
 ghost use mathlib.Core.Path.{_≡_};
 ghost use Prim.Native.Nat.{_+_, _*_, _-_, _≤_};
 ghost use lib.ListN.{length, take, drop};
-ghost use Rattle.keys.specs.Keys.{count-marks};
+ghost use Rattle.grid.specs.Grid.{board-refusal};
+ghost use Rattle.grid.specs.Code.{board-of};
+ghost use Rattle.keys.specs.Keys.{mark-bytes, stride, count-marks};
 ghost use Rattle.keys.specs.Held.{marked};
 
 // Bytes of a seed.
 pub const SEED_BYTES: usize = 32;
+
+// Bytes of a grid row's marks: a bit for each column.
+pub fn mark_bytes(board: Board) -> usize
+    requires { ⌜ board-refusal (board-of board) ≡ 0 ⌝ }
+    ensures { λ r. ⌜ r ≡ mark-bytes (board-of board) ⌝ }
+{
+    (board.columns() + 7) / 8
+}
+
+// Bytes of a grid row: its marks, and the seeds of half its columns.
+pub fn stride(board: Board) -> usize
+    requires { ⌜ board-refusal (board-of board) ≡ 0 ⌝ }
+    ensures { λ r. ⌜ r ≡ stride (board-of board) ⌝ }
+{
+    mark_bytes(board) + 16 * board.columns()
+}
 
 // The part of a key that begins at a place, and an empty one past the end.
 pub fn part_from(key: &[u8], from: usize) -> &[u8]

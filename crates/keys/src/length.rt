@@ -1,7 +1,13 @@
 // How long things are: a number, a header, and the whole key of an accepted board.
+use crate::grid_row::stride;
+use crate::reader::Header;
+use grid::board::Board;
 ghost use mathlib.Core.Path.{_≡_};
 ghost use lib.ListN.{length};
-ghost use Rattle.keys.specs.Keys.{number-bytes};
+ghost use Rattle.grid.specs.Grid.{board-refusal};
+ghost use Rattle.grid.specs.Code.{board-of};
+ghost use Rattle.keys.specs.Keys.{number-bytes, key-long};
+ghost use Rattle.keys.specs.Answers.{header-written};
 
 // Bytes of a number, a group of seven bits to each.
 pub fn number_length(number: u32) -> usize
@@ -14,4 +20,25 @@ pub fn number_length(number: u32) -> usize
         return 2;
     }
     3
+}
+
+// Bytes of a header.
+pub fn header_length(header: Header) -> usize
+    ensures { λ r. ⌜ r ≡ length (header-written «header») ⌝ }
+{
+    let board = header.board;
+    number_length(board.players)
+        + number_length(header.player)
+        + number_length(board.positions)
+        + number_length(board.width)
+        + number_length(board.value_bytes)
+}
+
+// Bytes of a key, K: header + ν × (marks + 16 × J) + J × μ × w. Whose key it is makes no difference: a player's number takes one byte.
+pub fn key_length(board: Board) -> usize
+    requires { ⌜ board-refusal (board-of board) ≡ 0 ⌝ }
+    ensures { λ r. ⌜ r ≡ key-long (board-of board) ⌝ }
+{
+    let anyone = Header { board, player: 0 };
+    header_length(anyone) + board.grid_rows() * stride(board) + board.columns() * board.row_length()
 }

@@ -1,0 +1,28 @@
+-- `keys::grid_row::mark_bytes` meets its contract. Assumes nothing.
+use native.Mathlib.Omega.{arith}
+use Rattle.grid.specs.Code.{board-of}
+use Rattle.keys.specs.Keys.{mark-bytes}
+use Rattle.keys.proofs.Lengths.{columns-in}
+use borrow.Author.Needs.{needs}
+use Rattle.keys.proofs.grid_row.mark_bytes.Statement.{statement}
+use Rattle.keys.proofs.grid_row.mark_bytes.Tie as tie
+use Rattle.keys.proofs.grid_row.mark_bytes.Reads as reads
+use Rattle.keys.proofs.grid_row.mark_bytes.Lts as lts
+use Rattle.grid.proofs.board.Board.columns.Reads as columns-reads
+
+-- src/grid_row.rt:21:6
+columns-requires : tie.Need-columns-requires
+columns-requires c κs = search needs
+
+-- src/grid_row.rt:21:6
+add-result : tie.Need-add-result
+add-result c =
+    let size = columns-in (board-of (c .before .args .board)) (c .before .pre) in omega arith
+
+-- src/grid_row.rt:17:1
+returns : tie.Need-returns
+unfolding mark-bytes
+returns c = rw (c .columns .ensures)
+
+pub mark-bytes-spec : {M : Type 1} → statement M
+mark-bytes-spec = tie.close (tie.spec columns-requires add-result returns)
