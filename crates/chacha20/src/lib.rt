@@ -1,1 +1,219 @@
-// to come
+// ChaCha20 by RFC 8439, to be held beside it: section 2.1's quarter round, 2.3's double round and block function, 2.4's key stream,
+// under the RFC's names and in its order. `expand` makes a row from a seed: the key stream with the seed as key, the nonce twelve
+// zeros and the block counter from 0. The meanings stand in specs/Expand.antt and specs/Rfc8439.antt. Assumes nothing.
+ghost use mathlib.Core.Path.{_≡_};
+ghost use Prim.Native.Nat.{_+_, _/_, _^_, _<_, _≤_};
+ghost use mathlib.Core.List.{[], _∷_};
+ghost use lib.ListN.{length, take};
+ghost use Rattle.chacha20.specs.Expand.{turned, xor-word, mixed, double-round, rounds, word-at, sums, low-bytes, expand};
+ghost use Rattle.chacha20.specs.Rfc8439.{Places, quarter-at, opening-state, chacha20-block, key-stream};
+
+// 2.3: the quarter rounds of a double round, each by its four places in the state: a column round, then a diagonal round.
+const QUARTER_ROUNDS: [[usize; 4]; 8] = [
+    [0, 4, 8, 12],
+    [1, 5, 9, 13],
+    [2, 6, 10, 14],
+    [3, 7, 11, 15],
+    [0, 5, 10, 15],
+    [1, 6, 11, 12],
+    [2, 7, 8, 13],
+    [3, 4, 9, 14],
+];
+
+// 2.1: word ^= sum; word <<<= roll
+fn xor_roll(word: u32, sum: u32, roll: u32) -> u32
+    requires { ⌜ (0 < roll) × (roll < 32) ⌝ }
+    ensures { λ r. ⌜ r ≡ turned (xor-word word sum) roll ⌝ }
+{
+    let mixed = word ^ sum;
+    (mixed << roll) | (mixed >> (32 - roll))
+}
+
+// 2.1, one of the four lines: a += b; d ^= a; d <<<= roll
+fn half_step(state: [u32; 16], a: usize, b: usize, d: usize, roll: u32) -> [u32; 16]
+    requires { ⌜ (a < 16) × (b < 16) × (d < 16) × (0 < roll) × (roll < 32) ⌝ }
+    ensures { λ r. ⌜ r ≡ mixed a b d roll state ⌝ }
+{
+    let mut next = state;
+    let sum = std::num::wrapping_add_u32(state[a], state[b]);
+    let word = xor_roll(state[d], sum, roll);
+    next[a] = sum;
+    next[d] = word;
+    next
+}
+
+// 2.1 and 2.2: QUARTERROUND at four places of the state
+pub fn quarter_round(state: [u32; 16], places: [usize; 4]) -> [u32; 16]
+    requires { ⌜ Places places ⌝ }
+    ensures { λ r. ⌜ r ≡ quarter-at places state ⌝ }
+{
+    let a = places[0];
+    let b = places[1];
+    let c = places[2];
+    let d = places[3];
+    let first = half_step(state, a, b, d, 16);
+    let second = half_step(first, c, d, b, 12);
+    let third = half_step(second, a, b, d, 8);
+    half_step(third, c, d, b, 7)
+}
+
+// 2.3: a column round, then a diagonal round
+fn double_round(state: [u32; 16]) -> [u32; 16]
+    ensures { λ r. ⌜ r ≡ double-round state ⌝ }
+{
+    let table = QUARTER_ROUNDS;
+    let first = quarter_round(state, table[0]);
+    let second = quarter_round(first, table[1]);
+    let third = quarter_round(second, table[2]);
+    let fourth = quarter_round(third, table[3]);
+    let fifth = quarter_round(fourth, table[4]);
+    let sixth = quarter_round(fifth, table[5]);
+    let seventh = quarter_round(sixth, table[6]);
+    quarter_round(seventh, table[7])
+}
+
+// 2.3: twenty rounds
+fn twenty_rounds(initial: [u32; 16]) -> [u32; 16]
+    ensures { λ r. ⌜ r ≡ rounds 10 initial ⌝ }
+{
+    let mut state = initial;
+    let mut done: usize = 0;
+    while done < 10 {
+        let next = double_round(state);
+        state = next;
+        done += 1;
+    }
+    state
+}
+
+// 2.3: one word, its lowest byte first
+fn put_word(word: u32, out: &mut [u8])
+    requires { ⌜ length (now out) ≡ 4 ⌝ }
+    ensures { λ r. ⌜ now (out .exit) ≡ low-bytes (word ∷ []) ⌝ }
+{
+    out[0] = (word % 256) as u8;
+    out[1] = (word / 256 % 256) as u8;
+    out[2] = (word / 65536 % 256) as u8;
+    out[3] = (word / 16777216) as u8;
+}
+
+// 2.3: the initial state added to the state, and the sums serialized
+fn serialize(state: [u32; 16], initial: [u32; 16], out: &mut [u8])
+    requires { ⌜ length (now out) ≡ 64 ⌝ }
+    ensures { λ r. ⌜ now (out .exit) ≡ low-bytes (sums state initial) ⌝ }
+{
+    let mut i: usize = 0;
+    while i < 16 {
+        let word = state[i];
+        let sum = std::num::wrapping_add_u32(word, initial[i]);
+        let from = 4 * i;
+        let to = from + 4;
+        put_word(sum, &mut out[from..to]);
+        i += 1;
+    }
+}
+
+// 2.3: four bytes as a little-endian word
+fn word_of(first: u8, second: u8, third: u8, fourth: u8) -> u32
+    ensures { λ r. ⌜ r ≡ word-at (first ∷ second ∷ third ∷ fourth ∷ []) 0 ⌝ }
+{
+    first as u32 + 256 * (second as u32) + 65536 * (third as u32) + 16777216 * (fourth as u32)
+}
+
+// 2.3: the word whose first byte has the given place
+fn load(bytes: &[u8], place: usize) -> u32
+    requires { ⌜ place + 4 ≤ length (now bytes) ⌝ }
+    ensures { λ r. ⌜ r ≡ word-at (now (bytes .entry)) place ⌝ }
+{
+    word_of(
+        bytes[place],
+        bytes[place + 1],
+        bytes[place + 2],
+        bytes[place + 3],
+    )
+}
+
+// 2.3: the constant, the key, the block counter and the nonce
+fn initial_state(key: &[u8], counter: u32, nonce: &[u8]) -> [u32; 16]
+    requires { ⌜ (length (now key) ≡ 32) × (length (now nonce) ≡ 12) ⌝ }
+    ensures { λ r. ⌜ r ≡ opening-state (now (key .entry)) counter (now (nonce .entry)) ⌝ }
+{
+    let constant = b"expand 32-byte k";
+    [
+        load(constant, 0),
+        load(constant, 4),
+        load(constant, 8),
+        load(constant, 12),
+        load(key, 0),
+        load(key, 4),
+        load(key, 8),
+        load(key, 12),
+        load(key, 16),
+        load(key, 20),
+        load(key, 24),
+        load(key, 28),
+        counter,
+        load(nonce, 0),
+        load(nonce, 4),
+        load(nonce, 8),
+    ]
+}
+
+// 2.3.1, chacha20_block: one block of 64 bytes by key, block counter and nonce
+pub fn block(key: &[u8], counter: u32, nonce: &[u8], out: &mut [u8])
+    requires { ⌜ (length (now key) ≡ 32) × (length (now nonce) ≡ 12) × (length (now out) ≡ 64) ⌝ }
+    ensures { λ r. ⌜ now (out .exit) ≡ chacha20-block (now (key .entry)) counter (now (nonce .entry)) ⌝ }
+{
+    let initial = initial_state(key, counter, nonce);
+    let state = twenty_rounds(initial);
+    serialize(state, initial, out);
+}
+
+// Copies the first bytes of `bytes` into `out`, as many as it has room for.
+fn copy_front(bytes: &[u8], out: &mut [u8])
+    requires { ⌜ length (now out) ≤ length (now bytes) ⌝ }
+    ensures { λ r. ⌜ now (out .exit) ≡ take (length (now (out .entry))) (now (bytes .entry)) ⌝ }
+{
+    let mut i: usize = 0;
+    while i < out.len() {
+        out[i] = bytes[i];
+        i += 1;
+    }
+}
+
+// 2.4: a block of which only the first bytes are wanted
+fn short_block(key: &[u8], counter: u32, nonce: &[u8], out: &mut [u8])
+    requires { ⌜ (length (now key) ≡ 32) × (length (now nonce) ≡ 12) × (length (now out) ≤ 64) ⌝ }
+    ensures { λ r. ⌜ now (out .exit) ≡ take (length (now (out .entry))) (chacha20-block (now (key .entry)) counter (now (nonce .entry))) ⌝ }
+{
+    let mut whole = [0u8; 64];
+    block(key, counter, nonce, &mut whole);
+    copy_front(&whole, out);
+}
+
+// 2.4: the key stream from the block of `counter` on, block by block, the last one cut where `out` ends. The counter stays a word.
+pub fn key_stream(key: &[u8], counter: u32, nonce: &[u8], out: &mut [u8])
+    requires { ⌜ (length (now key) ≡ 32) × (length (now nonce) ≡ 12) × (counter + (length (now out) + 63) / 64 < 2 ^ 32) ⌝ }
+    ensures { λ r. ⌜ now (out .exit) ≡ key-stream (length (now (out .entry))) counter (now (key .entry)) (now (nonce .entry)) ⌝ }
+{
+    let mut next = counter;
+    let mut done: usize = 0;
+    while 64 <= out.len() - done {
+        let end = done + 64;
+        block(key, next, nonce, &mut out[done..end]);
+        done = end;
+        next += 1;
+    }
+    if done < out.len() {
+        short_block(key, next, nonce, &mut out[done..]);
+    }
+}
+
+// Document 01, "Rows from seeds": the seed is the key, the nonce twelve zero bytes, and the block counter starts at 0.
+pub fn expand(seed: &[u8], out: &mut [u8])
+    requires { ⌜ (length (now seed) ≡ 32) × (length (now out) ≤ 4096) ⌝ }
+    ensures { λ r. ⌜ now (out .exit) ≡ expand (length (now (out .entry))) (now (seed .entry)) ⌝ }
+{
+    let nonce = [0u8; 12];
+    key_stream(seed, 0, &nonce, out);
+}

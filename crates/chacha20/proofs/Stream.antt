@@ -1,0 +1,232 @@
+-- The key stream: a block has 64 bytes, blocks stand one after another, a shorter stream begins a longer one, and bytes from a starting
+-- byte on come from the blocks that hold them. Document 03's `block`, `blocks` and `expand` are the stream whose nonce is twelve zeros
+-- and whose counter starts at 0. Assumes nothing.
+use mathlib.Core.Path.{_≡_, refl, sym, ap, _∙_, subst}
+use mathlib.Core.Bool.{true}
+use mathlib.Core.List.{List, [], _∷_, _++_, append-assoc, append-nil}
+use Prim.Native.Nat.{ℕ, zero, suc, _+_, _*_, _-_, _/_, _%_, _^_, _<_, _≤_}
+use native.Mathlib.Omega.{arith}
+use native.Mathlib.Nat.{add-zero}
+use lib.ListN.{length, take, drop, length-set, drop-of-length-le}
+use lib.Seq.{length-take-le, take-take, take-append-add, take-append-le, drop-at, drop-drop}
+use borrow.Rule.Slice.PartMut.{midOf, putMid, mid-len, same-len-mid}
+use Rattle.xor.specs.Xor.{zeros, bytes-good}
+use Rattle.xor.proofs.Laws.{Word, word-append, word-take, good-cons}
+use Rattle.chacha20.specs.Expand.{full, add, mixed, quarter, double-round, rounds, key-words, word-at, at, opening, sums, low-bytes, block, blocks, expand}
+use Rattle.chacha20.specs.Rfc8439.{constant, opening-state, chacha20-block, stream-blocks, key-stream}
+use Rattle.chacha20.proofs.Parts.{length-sums, length-low-bytes, part-written}
+
+-- DOCUMENT 03'S definitions are the instance
+
+pub opening-is : (seed : List ℕ) (c : ℕ) → opening seed c ≡ opening-state seed c (zeros 12)
+unfolding opening opening-state constant key-words word-at at zeros
+opening-is seed c = refl
+
+pub block-is : (seed : List ℕ) (c : ℕ) → block seed c ≡ chacha20-block seed c (zeros 12)
+unfolding block chacha20-block
+block-is seed c = rw (opening-is seed c)
+
+pub blocks-is : (k c : ℕ) (seed : List ℕ) → blocks k c seed ≡ stream-blocks k c seed (zeros 12)
+unfolding blocks stream-blocks
+blocks-is zero c seed = refl
+blocks-is (suc k) c seed = rw (block-is seed c, blocks-is k (suc c) seed)
+
+pub expand-is : (n : ℕ) (seed : List ℕ) → expand n seed ≡ key-stream n 0 seed (zeros 12)
+unfolding expand key-stream
+expand-is n seed = rw (blocks-is ((n + 63) / 64) 0 seed)
+
+-- LENGTHS: no step changes the sixteen words
+
+length-mixed : (a b d n : ℕ) (xs : List ℕ) → length (mixed a b d n xs) ≡ length xs
+unfolding mixed
+length-mixed a b d n xs = simp length-set
+
+length-quarter : (a b c d : ℕ) (xs : List ℕ) → length (quarter a b c d xs) ≡ length xs
+unfolding quarter
+length-quarter a b c d xs = simp length-mixed
+
+length-rounds : (k : ℕ) (xs : List ℕ) → length (rounds k xs) ≡ length xs
+unfolding rounds double-round
+length-rounds zero xs = refl
+length-rounds (suc k) xs = length-rounds k (double-round xs) ∙ simp length-quarter
+
+length-opening-state : (key nonce : List ℕ) (c : ℕ) → length (opening-state key c nonce) ≡ 16
+unfolding opening-state key-words
+length-opening-state key nonce c = refl
+
+-- BYTES: a sum is a word, and a word has four bytes
+
+word-good : (v : ℕ) (bs : List ℕ) → v < full → bytes-good bs ≡ true → bytes-good (v % 256 ∷ v / 256 % 256 ∷ v / 65536 % 256 ∷ v / 16777216 ∷ bs) ≡ true
+word-good v bs h good =
+    let fourth = good-cons (v / 16777216) bs (omega arith) good in
+    let third = good-cons (v / 65536 % 256) (v / 16777216 ∷ bs) (omega arith) fourth in
+    let second = good-cons (v / 256 % 256) (v / 65536 % 256 ∷ v / 16777216 ∷ bs) (omega arith) third in
+    good-cons (v % 256) (v / 256 % 256 ∷ v / 65536 % 256 ∷ v / 16777216 ∷ bs) (omega arith) second
+
+sums-good : (xs ys : List ℕ) → bytes-good (low-bytes (sums xs ys)) ≡ true
+unfolding sums low-bytes bytes-good add
+sums-good [] ys = refl
+sums-good (x ∷ xs) [] = refl
+sums-good (x ∷ xs) (y ∷ ys) = word-good ((x + y) % full) (low-bytes (sums xs ys)) (omega arith) (sums-good xs ys)
+
+pub word-block : (key nonce : List ℕ) (c : ℕ) → Word 64 (chacha20-block key c nonce)
+unfolding chacha20-block
+word-block key nonce c =
+    let start = opening-state key c nonce in
+    let same = length-rounds 10 start in
+    let words : length (sums (rounds 10 start) start) ≡ 16 = length-sums (rounds 10 start) start same ∙ same ∙ length-opening-state key nonce c in
+    record {
+      long = length-low-bytes (sums (rounds 10 start) start) ∙ ap (λ (n : ℕ). 4 * n) words;
+      good = sums-good (rounds 10 start) start;
+    }
+
+pub word-stream : (k c : ℕ) (key nonce : List ℕ) → Word (64 * k) (stream-blocks k c key nonce)
+unfolding stream-blocks bytes-good
+word-stream zero c key nonce = record { long = refl; good = refl }
+word-stream (suc k) c key nonce =
+    subst (λ (n : ℕ). Word n (chacha20-block key c nonce ++ stream-blocks k (suc c) key nonce)) (omega arith)
+    (word-append (chacha20-block key c nonce) (stream-blocks k (suc c) key nonce) (word-block key nonce c) (word-stream k (suc c) key nonce))
+
+-- n bytes of the key stream are n bytes: every row that `expand` makes is one
+pub word-key-stream : (n c : ℕ) (key nonce : List ℕ) → Word n (key-stream n c key nonce)
+unfolding key-stream
+word-key-stream n c key nonce =
+    word-take n (stream-blocks ((n + 63) / 64) c key nonce) (omega arith) (word-stream ((n + 63) / 64) c key nonce)
+
+pub word-expand : (n : ℕ) (seed : List ℕ) → Word n (expand n seed)
+word-expand n seed = rw (expand-is n seed) (word-key-stream n 0 seed (zeros 12))
+
+-- PARTS of the key stream
+
+-- some blocks and then some more
+pub stream-add : (m k c : ℕ) (key nonce : List ℕ) → stream-blocks (m + k) c key nonce ≡ stream-blocks m c key nonce ++ stream-blocks k (c + m) key nonce
+unfolding stream-blocks
+stream-add zero k c key nonce =
+    let none : zero + k ≡ k = omega arith in
+    rw (none, add-zero c)
+stream-add (suc m) k c key nonce =
+    let one-more : suc m + k ≡ suc (m + k) = omega arith in
+    let counter : suc c + m ≡ c + suc m = omega arith in
+    rw (one-more, append-assoc, ← counter) (ap (λ (l : List ℕ). chacha20-block key c nonce ++ l) (stream-add m k (suc c) key nonce))
+
+-- n bytes are the first n of any blocks that are enough
+pub key-stream-of : (n k c : ℕ) (key nonce : List ℕ) → n ≤ 64 * k → take n (stream-blocks k c key nonce) ≡ key-stream n c key nonce
+unfolding key-stream
+key-stream-of n k c key nonce h =
+    let needed = (n + 63) / 64 in
+    let enough : needed + (k - needed) ≡ k = omega arith in
+    let long : n ≤ length (stream-blocks needed c key nonce) = omega (arith, word-stream needed c key nonce .long) in
+    subst (λ (m : ℕ). take n (stream-blocks m c key nonce) ≡ take n (stream-blocks needed c key nonce)) enough
+    (rw (stream-add needed (k - needed) c key nonce) (take-append-le n (stream-blocks needed c key nonce) (stream-blocks (k - needed) (c + needed) key nonce) long))
+
+-- a shorter stream begins a longer one
+pub take-key-stream : (m n c : ℕ) (key nonce : List ℕ) → m ≤ n → take m (key-stream n c key nonce) ≡ key-stream m c key nonce
+unfolding key-stream
+take-key-stream m n c key nonce h =
+    take-take m n (stream-blocks ((n + 63) / 64) c key nonce) h ∙ key-stream-of m ((n + 63) / 64) c key nonce (omega arith)
+
+-- some whole blocks, and then the rest of the stream
+pub key-stream-add : (k n c : ℕ) (key nonce : List ℕ) → key-stream (64 * k + n) c key nonce ≡ stream-blocks k c key nonce ++ key-stream n (c + k) key nonce
+unfolding key-stream
+key-stream-add k n c key nonce =
+    let more = (n + 63) / 64 in
+    let front = stream-blocks k c key nonce in
+    let long : length front ≡ 64 * k = word-stream k c key nonce .long in
+    sym (key-stream-of (64 * k + n) (k + more) c key nonce (omega arith))
+    ∙ rw (stream-add k more c key nonce, ← long) (take-append-add front (stream-blocks more (c + k) key nonce) n)
+
+-- what follows whole blocks is the stream from a later counter on
+pub drop-key-stream : (k n c : ℕ) (key nonce : List ℕ) → drop (64 * k) (key-stream (64 * k + n) c key nonce) ≡ key-stream n (c + k) key nonce
+drop-key-stream k n c key nonce =
+    rw (key-stream-add k n c key nonce) (drop-at (stream-blocks k c key nonce) (key-stream n (c + k) key nonce) (64 * k) (word-stream k c key nonce .long))
+
+-- BYTES FROM s TO e of the key stream: those of the blocks from s / 64 on, without the first s % 64
+pub part-of-key-stream : (s e c : ℕ) (key nonce : List ℕ) → s ≤ e → drop s (key-stream e c key nonce) ≡ drop (s % 64) (key-stream (e - 64 * (s / 64)) (c + s / 64) key nonce)
+part-of-key-stream s e c key nonce h =
+    let first = s / 64 in
+    let start : 64 * first + s % 64 ≡ s = omega arith in
+    let all : 64 * first + (e - 64 * first) ≡ e = omega arith in
+    let later = drop-key-stream first (e - 64 * first) c key nonce in
+    let same : drop (64 * first) (key-stream e c key nonce) ≡ key-stream (e - 64 * first) (c + first) key nonce = subst (λ (n : ℕ). drop (64 * first) (key-stream n c key nonce) ≡ key-stream (e - 64 * first) (c + first) key nonce) all later in
+    subst (λ (n : ℕ). drop n (key-stream e c key nonce) ≡ drop (s % 64) (key-stream (e - 64 * first) (c + first) key nonce)) start
+    (sym (drop-drop (s % 64) (64 * first) (key-stream e c key nonce)) ∙ ap (λ (l : List ℕ). drop (s % 64) l) same)
+
+-- WRITING the key stream block by block
+
+stream-one : (c : ℕ) (key nonce : List ℕ) → stream-blocks 1 c key nonce ≡ chacha20-block key c nonce
+unfolding stream-blocks
+stream-one c key nonce = append-nil (chacha20-block key c nonce)
+
+key-stream-none : (c : ℕ) (key nonce : List ℕ) → key-stream 0 c key nonce ≡ []
+unfolding key-stream
+key-stream-none c key nonce = refl
+
+-- at most a block of the key stream
+key-stream-short : (n c : ℕ) (key nonce : List ℕ) → n ≤ 64 → key-stream n c key nonce ≡ take n (chacha20-block key c nonce)
+key-stream-short n c key nonce h =
+    sym (key-stream-of n 1 c key nonce (omega arith)) ∙ ap (λ (l : List ℕ). take n l) (stream-one c key nonce)
+
+-- the bytes before `done` are those of the blocks of the counters from `counter` up to `next`; the rest is as it was
+pub record Written (key nonce : List ℕ) (counter : ℕ) (old out : List ℕ) (next done : ℕ) : Type 0 where
+  pub passed : counter ≤ next
+  pub place : done ≡ 64 * (next - counter)
+  pub within : done ≤ length old
+  pub same : length out ≡ length old
+  pub so-far : out ≡ stream-blocks (next - counter) counter key nonce ++ drop done old
+
+pub start : (key nonce : List ℕ) (counter : ℕ) (old : List ℕ) → Written key nonce counter old old counter 0
+unfolding stream-blocks
+start key nonce counter old =
+    let none : counter - counter ≡ 0 = omega arith in
+    record { passed = omega arith; place = omega arith; within = omega arith; same = refl; so-far = rw none }
+
+module _ (key nonce : List ℕ) (counter : ℕ) (old out : List ℕ) (next done : ℕ) (w : Written key nonce counter old out next done) where
+  written-long : length (stream-blocks (next - counter) counter key nonce) ≡ done
+  written-long = word-stream (next - counter) counter key nonce .long ∙ sym (w .place)
+
+  now-counter : counter + (next - counter) ≡ next
+  now-counter = let passed = w .passed in omega arith
+
+  -- a turn of the loop: the next block is written
+  pub next-block : (part : List ℕ) → 64 ≤ length out - done → length part ≡ length (midOf done (done + 64 - done) out) → part ≡ chacha20-block key next nonce →
+      Written key nonce counter old (putMid done (done + 64 - done) out part) (next + 1) (done + 64)
+  next-block part room long part-is =
+      let passed = w .passed in
+      let place = w .place in
+      let same = w .same in
+      let one-more : next + 1 - counter ≡ next - counter + 1 = omega arith in
+      record {
+        passed = omega arith;
+        place = omega arith;
+        within = omega arith;
+        same = same-len-mid done (done + 64 - done) out part long ∙ same;
+        so-far =
+            part-written (stream-blocks (next - counter) counter key nonce) old out part done (done + 64) written-long (omega arith) (w .so-far)
+            ∙ rw (part-is, one-more, stream-add (next - counter) 1 counter key nonce, now-counter, stream-one next key nonce);
+      }
+
+  -- where `out` ends with a block, it is the key stream
+  pub ended : length out ≤ done → out ≡ key-stream (length old) counter key nonce
+  ended h =
+      let place = w .place in
+      let within = w .within in
+      let same = w .same in
+      let end : length old ≡ 64 * (next - counter) + 0 = omega arith in
+      w .so-far
+      ∙ rw (drop-of-length-le old {i = done} (omega arith), end, key-stream-add (next - counter) 0 counter key nonce, key-stream-none (counter + (next - counter)) key nonce)
+
+  -- and where it does not, it is once the part of a block that has room is written
+  pub cut : (part : List ℕ) → length out - done < 64 → part ≡ take (length (midOf done (length out - done) out)) (chacha20-block key next nonce) →
+      putMid done (length out - done) out part ≡ key-stream (length old) counter key nonce
+  cut part room part-is =
+      let place = w .place in
+      let within = w .within in
+      let same = w .same in
+      let front = stream-blocks (next - counter) counter key nonce in
+      let rest = length out - done in
+      let end : 64 * (next - counter) + rest ≡ length old = omega arith in
+      let all : front ++ part ++ drop (length out) old ≡ front ++ part = rw (drop-of-length-le old {i = length out} (omega arith)) (append-nil (front ++ part)) in
+      let short : part ≡ key-stream rest (counter + (next - counter)) key nonce = rw now-counter (part-is ∙ rw (mid-len done (length out) out (omega arith)) (sym (key-stream-short rest next key nonce (omega arith)))) in
+      part-written front old out part done (length out) written-long (omega arith) (w .so-far) ∙ all ∙ ap (λ (l : List ℕ). front ++ l) short
+      ∙ sym (key-stream-add (next - counter) rest counter key nonce)
+      ∙ ap (λ (n : ℕ). key-stream n counter key nonce) end

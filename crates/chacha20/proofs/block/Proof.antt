@@ -1,0 +1,26 @@
+-- `chacha20::block` meets its contract. The opening state, the rounds, the sums. Assumes nothing.
+use borrow.Author.Needs.{needs}
+use Rattle.chacha20.proofs.Rounds.{three-steps}
+use Rattle.chacha20.proofs.block.Statement.{statement}
+use Rattle.chacha20.proofs.block.Tie as tie
+
+initial-state-requires : tie.Need-initial-state-requires
+initial-state-requires c κs = search needs
+
+twenty-rounds-requires : tie.Need-twenty-rounds-requires
+twenty-rounds-requires c κs = search needs
+
+serialize-requires : tie.Need-serialize-requires
+serialize-requires c κs = search needs
+
+same-length : tie.Need-same-length
+same-length c = search needs
+
+returns : tie.Need-returns
+returns c =
+    three-steps _ _ _ _ _ _ (c .before .before .before .before .before .initial-state .ensures) (c .before .before .before .before .twenty-rounds .ensures) (c .before .before .serialize .ensures)
+
+pub block-spec : {M : Type 1} → statement M
+block-spec =
+    tie.close
+    (tie.spec initial-state-requires twenty-rounds-requires serialize-requires same-length returns)
