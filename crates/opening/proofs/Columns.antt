@@ -11,40 +11,67 @@ use lib.ListN.{length, take, drop, length-drop}
 use lib.Seq.{length-take-le}
 use Rattle.xor.specs.Xor.{xors, zeros}
 use Rattle.xor.proofs.Laws.{word-zeros}
-use Rattle.keys.specs.Keys.{count-marks}
+use Rattle.grid.specs.Grid.{Board, columns, grid-rows, row-long}
+use Rattle.keys.specs.Keys.{count-marks, mark-bytes, stride, word-behind}
 use Rattle.keys.specs.Held.{marked}
 use Rattle.opening.specs.Shares.{stretch, shares, shares-from}
-
--- the word of a column lies before the end of all words
-pub word-within : (words j J l total : ℕ) → j < J → words + J * l ≤ total → words + j * l + l ≤ total
-word-within words j J l total h p =
-    omega (arith, mul-le-mul-right l h)
 
 -- the bytes from a on up to a + k are k
 pub part-long : (a k : ℕ) → a + k - a ≡ k
 part-long a k = omega arith
 
+pub part-whole : (a k : ℕ) (ps : List ℕ) → a + k ≤ length ps → length (take (a + k - a) (drop a ps)) ≡ k
+part-whole a k ps h = rw (part-long a k) (length-take-le k (drop a ps) (rw length-drop (omega arith)))
+
+module _ (b : Board) (ps : List ℕ) (g : ℕ) (inside : g < grid-rows b) (long : length ps ≡ (grid-rows b - g) * stride b + columns b * row-long b) where
+  -- the word of a column lies in the part
+  pub word-fits : (words j J l : ℕ) → words ≡ (grid-rows b - g) * stride b → J ≡ columns b → l ≡ row-long b → j < J → words + j * l + l ≤ length ps
+  word-fits words j J l w c r h =
+      let last : suc j * row-long b ≤ columns b * row-long b = mul-le-mul-right (row-long b) (omega arith) in
+      rw (w, r) (omega arith)
+
+  -- and so does the seed of each of half the columns
+  pub seed-fits : (marks q J : ℕ) → marks ≡ mark-bytes b → J ≡ columns b → q < J / 2 → marks + 32 * q + 32 ≤ length ps
+  unfolding stride
+  seed-fits marks q J m c h =
+      let left : grid-rows b - g ≡ suc (grid-rows b - suc g) = omega arith in
+      let whole = rw left at long in omega (arith, whole)
+
 -- a seed that lies in the part has its 32 bytes
 pub seed-whole : (seed ps : List ℕ) (at : ℕ) → seed ≡ take 32 (drop at ps) → at + 32 ≤ length ps → length seed ≡ 32
 seed-whole seed ps at e h = ap length e ∙ length-take-le 32 (drop at ps) (rw length-drop (omega arith))
 
--- where the loop begins, and where it ends
-pub count-start : (J h : ℕ) (ps : List ℕ) → count-marks J 0 ps ≡ h → 0 + count-marks (J - 0) 0 ps ≡ h
-count-start J h ps e =
-    let all : J - 0 ≡ J = omega arith in
-    rw all (omega arith)
+-- where the words begin in the part, by the code's numbers
+pub words-are : (rows row-bytes R S g : ℕ) → rows ≡ R → row-bytes ≡ S → (rows - g) * row-bytes ≡ (R - g) * S
+words-are rows row-bytes R S g p q = rw (p, q)
 
-pub shares-start : (f : List ℕ → List ℕ) (ps : List ℕ) (J words l s n : ℕ) (xs : List ℕ) → xs ≡ zeros n →
-    shares-from (J - 0) 0 0 f ps J words l s (length xs) xs ≡ shares f ps J words l s (length xs)
+-- the code's word and row of a column are those of the definition
+pub word-is : (b : Board) (ps : List ℕ) (g j words l long : ℕ) → words ≡ (grid-rows b - g) * stride b → l ≡ row-long b → long ≡ l →
+    take long (drop (words + j * l) ps) ≡ word-behind b ps g j
+unfolding word-behind
+word-is b ps g j words l long w r e = rw (e, w, r)
+
+pub row-is : (rule : ℕ → List ℕ → List ℕ) (b : Board) (ps seed : List ℕ) (marks q long : ℕ) → long ≡ row-long b → marks ≡ mark-bytes b → seed ≡ take 32 (drop (marks + 32 * q) ps) →
+    rule long seed ≡ rule (row-long b) (take 32 (drop (mark-bytes b + 32 * q) ps))
+row-is rule b ps seed marks q long r m e = rw (r, e, m)
+
+-- where the loop begins, and where it ends
+pub count-start : (J K : ℕ) (ps : List ℕ) → J ≡ K → count-marks K 0 ps ≡ K / 2 → 0 + count-marks (J - 0) 0 ps ≡ J / 2
+count-start J K ps c e =
+    let all : J - 0 ≡ K = omega arith in
+    rw (all, c) (omega arith)
+
+pub shares-start : (b : Board) (f : List ℕ → List ℕ) (ps : List ℕ) (g s n J : ℕ) (xs : List ℕ) → J ≡ columns b → xs ≡ zeros n →
+    shares-from (J - 0) 0 0 b f ps g s (length xs) xs ≡ shares b f ps g s (length xs)
 unfolding shares
-shares-start f ps J words l s n xs e =
+shares-start b f ps g s n J xs c e =
     let long : length xs ≡ n = ap length e ∙ word-zeros n .long in
-    let all : J - 0 ≡ J = omega arith in
+    let all : J - 0 ≡ columns b = omega arith in
     rw (long, e, all)
 
-pub shares-end : (f : List ℕ → List ℕ) (ps : List ℕ) (J words l s n j q : ℕ) (xs all : List ℕ) → J ≤ j → shares-from (J - j) j q f ps J words l s n xs ≡ all → xs ≡ all
+pub shares-end : (b : Board) (f : List ℕ → List ℕ) (ps : List ℕ) (g s n J j q : ℕ) (xs all : List ℕ) → J ≤ j → shares-from (J - j) j q b f ps g s n xs ≡ all → xs ≡ all
 unfolding shares-from
-shares-end f ps J words l s n j q xs all past h =
+shares-end b f ps g s n J j q xs all past h =
     let none : J - j ≡ 0 = omega arith in
     rw none at h
 
@@ -68,20 +95,20 @@ module _ (ps : List ℕ) (J j q : ℕ) (within : j < J) (seen : q + count-marks 
       let left : J - j ≡ suc (J - suc j) = omega arith in
       let count = rw (left, m) at seen in rw (add-one j) (omega (arith, count))
 
-module _ (rule : ℕ → List ℕ → List ℕ) (ps : List ℕ) (J words l s n j q : ℕ) (within : j < J) (xs all : List ℕ)
-    (so-far : shares-from (J - j) j q (rule l) ps J words l s n xs ≡ all) (ys : List ℕ) (next : ℕ) where
+module _ (b : Board) (f : List ℕ → List ℕ) (ps : List ℕ) (g s n J j q : ℕ) (within : j < J) (xs all : List ℕ)
+    (so-far : shares-from (J - j) j q b f ps g s n xs ≡ all) (ys : List ℕ) (next : ℕ) where
   -- a column that is not marked adds nothing
-  pub unmarked-turn : marked ps j ≡ false → ys ≡ xs → next ≡ q → shares-from (J - (j + 1)) (j + 1) next (rule l) ps J words l s n ys ≡ all
+  pub unmarked-turn : marked ps j ≡ false → ys ≡ xs → next ≡ q → shares-from (J - (j + 1)) (j + 1) next b f ps g s n ys ≡ all
   unfolding shares-from
   unmarked-turn m same e =
       let left : J - j ≡ suc (J - suc j) = omega arith in
       rw (same, e, add-one j) (rw (left, m) at so-far)
 
   -- a marked one adds its word and its seed's row
-  pub marked-turn : (row-long word-long : ℕ) (seed : List ℕ) → marked ps j ≡ true → row-long ≡ l → seed ≡ take 32 (drop ((J + 7) / 8 + 32 * q) ps) → word-long ≡ l →
-      length xs ≡ n → next ≡ q + 1 → ys ≡ xors xs (xors (stretch s (length xs) (take word-long (drop (words + j * l) ps))) (stretch s (length xs) (rule row-long seed))) →
-      shares-from (J - (j + 1)) (j + 1) next (rule l) ps J words l s n ys ≡ all
+  pub marked-turn : (word row : List ℕ) → marked ps j ≡ true → word ≡ word-behind b ps g j → row ≡ f (take 32 (drop (mark-bytes b + 32 * q) ps)) →
+      length xs ≡ n → next ≡ q + 1 → ys ≡ xors xs (xors (stretch s (length xs) word) (stretch s (length xs) row)) →
+      shares-from (J - (j + 1)) (j + 1) next b f ps g s n ys ≡ all
   unfolding shares-from
-  marked-turn row-long word-long seed m r p v e counted new =
+  marked-turn word row m v r e counted new =
       let left : J - j ≡ suc (J - suc j) = omega arith in
-      rw (new, counted, e, r, p, v, add-one j, add-one q) (rw (left, m) at so-far)
+      rw (new, counted, e, v, r, add-one j, add-one q) (rw (left, m) at so-far)

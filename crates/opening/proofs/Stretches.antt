@@ -3,13 +3,15 @@
 use mathlib.Core.Path.{_≡_, refl, sym, ap, _∙_}
 use mathlib.Core.Bool.{Bool, true, false, cond}
 use mathlib.Core.List.{List, [], _∷_}
-use Prim.Native.Nat.{ℕ, zero, suc, _+_, _*_, _-_, _/_, _≤_}
+use Prim.Native.Nat.{ℕ, zero, suc, _+_, _*_, _-_, _≤_}
 use native.Mathlib.Omega.{arith}
 use lib.ListN.{length, take, drop}
-use lib.Seq.{take-take, take-nil, drop-nil}
+use lib.Seq.{take-take}
 use Rattle.xor.specs.Xor.{xors, zeros}
 use Rattle.xor.proofs.Laws.{xors-assoc, take-xors, drop-xors}
 use Rattle.grid.proofs.Cells.{take-zeros, drop-zeros}
+use Rattle.grid.specs.Grid.{Board, columns, row-long}
+use Rattle.keys.specs.Keys.{mark-bytes, word-behind}
 use Rattle.keys.specs.Held.{marked}
 use Rattle.opening.specs.Shares.{stretch, shares, shares-from}
 
@@ -42,29 +44,32 @@ stretch-either : (s n : ℕ) (t : Bool) (xs ys us vs : List ℕ) → stretch s n
 stretch-either s n true xs ys us vs p q = p
 stretch-either s n false xs ys us vs p q = q
 
-module _ (f : List ℕ → List ℕ) (ps : List ℕ) (J words l s n : ℕ) (within : s + n ≤ l) where
+module _ (b : Board) (f : List ℕ → List ℕ) (ps : List ℕ) (g s n : ℕ) (within : s + n ≤ row-long b) where
   -- what a column adds, in a stretch
-  column-stretch : (xs word row : List ℕ) →
+  column-stretch : (xs word row : List ℕ) → let l = row-long b in
       stretch s n (xors xs (xors (stretch 0 l word) (stretch 0 l row))) ≡ xors (stretch s n xs) (xors (stretch s n word) (stretch s n row))
   column-stretch xs word row =
+      let l = row-long b in
       stretch-xors s n xs (xors (stretch 0 l word) (stretch 0 l row))
       ∙ ap (λ (one : List ℕ). xors (stretch s n xs) one)
       (stretch-xors s n (stretch 0 l word) (stretch 0 l row) ∙ rw (stretch-within s n l word within, stretch-within s n l row within))
 
   shares-from-stretch : (k j q : ℕ) (xs : List ℕ) →
-      stretch s n (shares-from k j q f ps J words l 0 l xs) ≡ shares-from k j q f ps J words l s n (stretch s n xs)
+      stretch s n (shares-from k j q b f ps g 0 (row-long b) xs) ≡ shares-from k j q b f ps g s n (stretch s n xs)
   unfolding shares-from
   shares-from-stretch zero j q xs = refl
   shares-from-stretch (suc k) j q xs =
-      let seed = take 32 (drop ((J + 7) / 8 + 32 * q) ps) in
-      let word = take l (drop (words + j * l) ps) in
+      let l = row-long b in
+      let seed = take 32 (drop (mark-bytes b + 32 * q) ps) in
+      let word = word-behind b ps g j in
       stretch-either s n (marked ps j) _ _ _ _
       (shares-from-stretch k (suc j) (suc q) (xors xs (xors (stretch 0 l word) (stretch 0 l (f seed))))
-      ∙ ap (λ (ys : List ℕ). shares-from k (suc j) (suc q) f ps J words l s n ys) (column-stretch xs word (f seed)))
+      ∙ ap (λ (ys : List ℕ). shares-from k (suc j) (suc q) b f ps g s n ys) (column-stretch xs word (f seed)))
       (shares-from-stretch k (suc j) q xs)
 
   -- a stretch of a grid row's shares is that stretch of the whole row of them
-  pub shares-stretch : shares f ps J words l s n ≡ stretch s n (shares f ps J words l 0 l)
+  pub shares-stretch : shares b f ps g s n ≡ stretch s n (shares b f ps g 0 (row-long b))
   unfolding shares
   shares-stretch =
-      sym (shares-from-stretch J 0 0 (zeros l) ∙ ap (λ (ys : List ℕ). shares-from J 0 0 f ps J words l s n ys) (stretch-zeros s n l within))
+      sym (shares-from-stretch (columns b) 0 0 (zeros (row-long b))
+      ∙ ap (λ (ys : List ℕ). shares-from (columns b) 0 0 b f ps g s n ys) (stretch-zeros s n (row-long b) within))

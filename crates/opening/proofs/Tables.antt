@@ -13,6 +13,8 @@ use lib.Seq.{take-add, drop-drop}
 use Rattle.xor.specs.Xor.{xors, zeros}
 use Rattle.grid.specs.Grid.{Board, columns, grid-rows, row-long, cell}
 use Rattle.grid.proofs.Facts.{Board-in, cell-fits}
+use Rattle.keys.proofs.Accepted.{Body-in}
+use Rattle.keys.proofs.Opening.{opened-part-is}
 use Rattle.keys.specs.Keys.{stride, mark-bytes, row-part, word-behind, opened-from, opened-part, Parts, parts-of, share-by-parts, table-from}
 use Rattle.keys.specs.Held.{marked}
 use Rattle.opening.specs.Shares.{stretch, shares, shares-from}
@@ -25,15 +27,14 @@ either true x y u v p q = p
 either false x y u v p q = q
 
 opened-from-shares : (k j q : ℕ) (b : Board) (f : List ℕ → List ℕ) (ps : List ℕ) (g c : ℕ) (xs : List ℕ) →
-    opened-from k j q b f ps g c xs ≡ shares-from k j q f ps (columns b) ((grid-rows b - g) * stride b) (row-long b) (c * b .w) (b .w) xs
-unfolding opened-from shares-from stretch cell word-behind mark-bytes marked
+    opened-from k j q b f ps g c xs ≡ shares-from k j q b f ps g (c * b .w) (b .w) xs
+unfolding opened-from shares-from stretch cell marked
 opened-from-shares zero j q b f ps g c xs = refl
 opened-from-shares (suc k) j q b f ps g c xs =
-    either (marked ps j) _ _ _ _
-    (opened-from-shares k (suc j) (suc q) b f ps g c _) (opened-from-shares k (suc j) q b f ps g c xs)
+    either (marked ps j) _ _ _ _ (opened-from-shares k (suc j) (suc q) b f ps g c _) (opened-from-shares k (suc j) q b f ps g c xs)
 
 pub opened-shares : (b : Board) (f : List ℕ → List ℕ) (ps : List ℕ) (a : ℕ) →
-    opened-part b f ps a ≡ shares f ps (columns b) ((grid-rows b - a / b .wide) * stride b) (row-long b) (a % b .wide * b .w) (b .w)
+    opened-part b f ps a ≡ shares b f ps (a / b .wide) (a % b .wide * b .w) (b .w)
 unfolding opened-part shares
 opened-shares b f ps a = opened-from-shares (columns b) 0 0 b f ps (a / b .wide) (a % b .wide) (zeros (b .w))
 
@@ -57,24 +58,19 @@ cells-glued (suc m) a b f q row h =
     let first : share-by-parts b f q a ≡ take (b .w) row = rw (here, none) at (h 0 (omega arith)) in
     rw (more, take-add (b .w) (m * b .w) row, first)
     (ap (λ (rest : List ℕ). take (b .w) row ++ rest) (cells-glued m (suc a) b f q (drop (b .w) row) (λ c p.
-      let next : suc a + c ≡ a + suc c = omega arith in
-      let further : suc c * b .w ≡ b .w + c * b .w = omega arith in
-      rw (next, drop-drop (c * b .w) (b .w) row) (rw further at (h (suc c) (omega arith))))))
+    let next : suc a + c ≡ a + suc c = omega arith in
+    let further : suc c * b .w ≡ b .w + c * b .w = omega arith in
+    rw (next, drop-drop (c * b .w) (b .w) row) (rw further at (h (suc c) (omega arith))))))
 
 -- in document 03's table, grid row g has the first bytes of its shares, as many as its cells in the table take
-pub grid-row-table : (b : Board) (f : List ℕ → List ℕ) (bs : List ℕ) (g m : ℕ) → m ≤ b .wide → g * b .wide + m ≤ b .n →
-    ((a : ℕ) → a < b .n → share-by-parts b f (parts-of b bs) a ≡ opened-part b f (row-part b bs (a / b .wide)) a) →
-    table-from m (g * b .wide) b f (parts-of b bs)
-    ≡ shares f (row-part b bs g) (columns b) ((grid-rows b - g) * stride b) (row-long b) 0 (m * b .w)
-grid-row-table b f bs g m h within opens =
-    let J = columns b in
-    let words = (grid-rows b - g) * stride b in
-    let l = row-long b in
+pub grid-row-table : (b : Board) (f : List ℕ → List ℕ) (bs : List ℕ) (g m : ℕ) → Board-in b → Body-in b bs → m ≤ b .wide → g * b .wide + m ≤ b .n →
+    table-from m (g * b .wide) b f (parts-of b bs) ≡ shares b f (row-part b bs g) g 0 (m * b .w)
+grid-row-table b f bs g m board body h within =
     let ps = row-part b bs g in
-    let fits : m * b .w ≤ l = row-fits b m h in
-    cells-glued m (g * b .wide) b f (parts-of b bs) (shares f ps J words l 0 l) (λ c p.
-      let row-is = digits-div g {m = b .wide} {r = c} (omega arith) in
-      let cell-is = digits-mod g {m = b .wide} {r = c} (omega arith) in
-      opens (g * b .wide + c) (omega arith) ∙ opened-shares b f (row-part b bs ((g * b .wide + c) / b .wide)) (g * b .wide + c)
-      ∙ rw (row-is, cell-is) (shares-stretch f ps J words l (c * b .w) (b .w) (omega (arith, cell-fits b c (omega arith)))))
-    ∙ sym (shares-stretch f ps J words l 0 (m * b .w) (omega arith))
+    cells-glued m (g * b .wide) b f (parts-of b bs) (shares b f ps g 0 (row-long b)) (λ c p.
+    let a = g * b .wide + c in
+    let row-is = digits-div g {m = b .wide} {r = c} (omega arith) in
+    let cell-is = digits-mod g {m = b .wide} {r = c} (omega arith) in
+    sym (opened-part-is b f bs a board body (omega arith)) ∙ opened-shares b f (row-part b bs (a / b .wide)) a
+    ∙ rw (row-is, cell-is) (shares-stretch b f ps g (c * b .w) (b .w) (omega (arith, cell-fits b c (omega arith)))))
+    ∙ sym (shares-stretch b f ps g 0 (m * b .w) (omega (arith, row-fits b m h)))

@@ -3,28 +3,28 @@
 -- Assumes nothing: these are definitions.
 use mathlib.Core.Bool.{cond}
 use mathlib.Core.List.{List, _++_}
-use Prim.Native.Nat.{ℕ, zero, suc, _+_, _*_, _/_}
+use Prim.Native.Nat.{ℕ, zero, suc, _+_, _*_}
 use lib.ListN.{length, take, drop}
 use Rattle.xor.specs.Xor.{xors, zeros}
+use Rattle.grid.specs.Grid.{Board, columns}
+use Rattle.keys.specs.Keys.{mark-bytes, word-behind}
 use Rattle.keys.specs.Held.{marked}
 
 -- n bytes of a row or of a word, from byte s on; "cell c of a row or word is the w bytes from c × w on"
 unfoldable pub stretch : (s n : ℕ) → List ℕ → List ℕ
 stretch s n xs = take n (drop s xs)
 
--- "the XOR, over the columns that the player's mark has in that grid row, of word and row", of these the bytes from s on, n of them. The
--- part begins with the marks of J columns and the held seeds; its words begin at byte `words` and have `long` bytes, as the rows have.
--- `seen` counts marked columns
-unfoldable pub shares-from : (left j seen : ℕ) → (rule : List ℕ → List ℕ) → (part : List ℕ) → (J words long s n : ℕ) → List ℕ → List ℕ
-shares-from zero j q f ps J w l s n xs = xs
-shares-from (suc k) j q f ps J w l s n xs =
-    let seed = take 32 (drop ((J + 7) / 8 + 32 * q) ps) in
-    let one = xors (stretch s n (take l (drop (w + j * l) ps))) (stretch s n (f seed)) in
-    cond (marked ps j) (shares-from k (suc j) (suc q) f ps J w l s n (xors xs one))
-    (shares-from k (suc j) q f ps J w l s n xs)
+-- "the XOR, over the columns that the player's mark has in that grid row, of word and row": of it n bytes from byte s on. `part` begins at
+-- grid row g, and `seen` counts marked columns. This is the keys' `opened-from`, which takes the stretch of one cell
+unfoldable pub shares-from : (left j seen : ℕ) → Board → (rule : List ℕ → List ℕ) → (part : List ℕ) → (g s n : ℕ) → List ℕ → List ℕ
+shares-from zero j q b f ps g s n xs = xs
+shares-from (suc k) j q b f ps g s n xs =
+    let seed = take 32 (drop (mark-bytes b + 32 * q) ps) in
+    let one = xors (stretch s n (word-behind b ps g j)) (stretch s n (f seed)) in
+    cond (marked ps j) (shares-from k (suc j) (suc q) b f ps g s n (xors xs one)) (shares-from k (suc j) q b f ps g s n xs)
 
-unfoldable pub shares : (rule : List ℕ → List ℕ) → (part : List ℕ) → (J words long s n : ℕ) → List ℕ
-shares f ps J w l s n = shares-from J 0 0 f ps J w l s n (zeros n)
+unfoldable pub shares : Board → (rule : List ℕ → List ℕ) → (part : List ℕ) → (g s n : ℕ) → List ℕ
+shares b f ps g s n = shares-from (columns b) 0 0 b f ps g s n (zeros n)
 
 -- "output past the bytes named keeps its bytes"
 unfoldable pub in-front : (new old : List ℕ) → List ℕ
