@@ -16,6 +16,10 @@ use Rattle.keys.specs.Keys.{count-marks, mark-bytes, stride, word-behind}
 use Rattle.keys.specs.Held.{marked}
 use Rattle.opening.specs.Shares.{stretch, shares, shares-from}
 
+-- a product of the code's numbers is that of the definition's
+pub products : (a b c d : ℕ) → a ≡ c → b ≡ d → a * b ≡ c * d
+products a b c d p q = rw (p, q)
+
 -- the bytes from a on up to a + k are k
 pub part-long : (a k : ℕ) → a + k - a ≡ k
 part-long a k = omega arith
@@ -40,10 +44,6 @@ module _ (b : Board) (ps : List ℕ) (g : ℕ) (inside : g < grid-rows b) (long 
 -- a seed that lies in the part has its 32 bytes
 pub seed-whole : (seed ps : List ℕ) (at : ℕ) → seed ≡ take 32 (drop at ps) → at + 32 ≤ length ps → length seed ≡ 32
 seed-whole seed ps at e h = ap length e ∙ length-take-le 32 (drop at ps) (rw length-drop (omega arith))
-
--- where the words begin in the part, by the code's numbers
-pub words-are : (rows row-bytes R S g : ℕ) → rows ≡ R → row-bytes ≡ S → (rows - g) * row-bytes ≡ (R - g) * S
-words-are rows row-bytes R S g p q = rw (p, q)
 
 -- the code's word and row of a column are those of the definition
 pub word-is : (b : Board) (ps : List ℕ) (g j words l long : ℕ) → words ≡ (grid-rows b - g) * stride b → l ≡ row-long b → long ≡ l →

@@ -2,3 +2,4 @@
 pub mod Stretches
 pub mod Columns
 pub mod Tables
+pub mod Bodies

@@ -16,7 +16,7 @@ use Rattle.grid.proofs.Accepted.{row-most}
 use Rattle.keys.specs.Keys.{count-marks, mark-bytes, stride}
 use Rattle.keys.specs.Held.{marked}
 use Rattle.opening.specs.Shares.{shares, shares-from}
-use Rattle.opening.proofs.Columns.{part-long, part-whole, words-are, word-fits, seed-fits, seed-whole, word-is, row-is, count-start, shares-start, shares-end, seed-held, count-marked, count-unmarked, marked-turn, unmarked-turn}
+use Rattle.opening.proofs.Columns.{part-long, part-whole, products, word-fits, seed-fits, seed-whole, word-is, row-is, count-start, shares-start, shares-end, seed-held, count-marked, count-unmarked, marked-turn, unmarked-turn}
 use Rattle.opening.proofs.open_part.Statement.{statement}
 use Rattle.opening.proofs.open_part.Tie as tie
 use Rattle.opening.proofs.open_part.Reads as reads
@@ -49,7 +49,7 @@ entry c = c .before .before .before .before .before .before .before .before .bef
 words-at : (c : tie.After-stride Inv-loop μ-loop) → let a = entry c .args in
     (c .before .grid-rows .result - a .grid-row) * c .stride .result ≡ (grid-rows (board-of (a .board)) - a .grid-row) * stride (board-of (a .board))
 words-at c =
-    words-are (c .before .grid-rows .result) (c .stride .result) _ _ (entry c .args .grid-row) (c .before .grid-rows .ensures) (c .stride .ensures)
+    products (c .before .grid-rows .result - entry c .args .grid-row) (c .stride .result) _ _ (ap (λ (n : ℕ). n - entry c .args .grid-row) (c .before .grid-rows .ensures)) (c .stride .ensures)
 
 clear-requires : tie.Need-clear-requires Inv-loop μ-loop
 clear-requires c κs = search needs
