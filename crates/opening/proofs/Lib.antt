@@ -3,3 +3,4 @@ pub mod Stretches
 pub mod Columns
 pub mod Tables
 pub mod Bodies
+pub mod GridRows

@@ -96,7 +96,14 @@ pub fn open_square(key: &[u8], board: Board, position: u32, out: &mut [u8])
     let start = grid_row * stride(board);
     let from = ((position % board.width) * board.value_bytes) as usize;
     let count = board.value_bytes as usize;
-    open_part(&body[start..], board, grid_row, from, &mut scratch[..row_bytes], &mut out[..count]);
+    open_part(
+        &body[start..],
+        board,
+        grid_row,
+        from,
+        &mut scratch[..row_bytes],
+        &mut out[..count],
+    );
 }
 
 // The lesser of two lengths.
@@ -135,5 +142,10 @@ pub fn open_table(key: &[u8], board: Board, out: &mut [u8])
     let mut scratch = [0u8; 4096];
     let row_bytes = board.row_length();
     let count = (board.positions * board.value_bytes) as usize;
-    open_rows(body_of(key, board), board, &mut scratch[..row_bytes], &mut out[..count]);
+    open_rows(
+        body_of(key, board),
+        board,
+        &mut scratch[..row_bytes],
+        &mut out[..count],
+    );
 }
