@@ -1,22 +1,40 @@
--- The bytes behind an accepted key's header, and the part of them that begins at a grid row. Assumes nothing.
+-- The bytes behind an accepted key's header, what document 03 makes of them, and what is written in front of a lent list. Assumes nothing.
 use mathlib.Core.Path.{_≡_, refl, sym, ap, _∙_, subst}
 use mathlib.Core.Bool.{true}
 use mathlib.Core.List.{List, _++_}
-use Prim.Native.Nat.{ℕ, suc, _+_, _*_, _-_, _≤_, _<_}
-use native.Mathlib.Nat.{mul-le-mul-right}
+use Prim.Native.Nat.{ℕ, suc, _+_, _*_, _-_, _/_, _≤_, _<_}
+use native.Mathlib.Nat.{mul-le-mul}
 use native.Mathlib.Omega.{arith}
 use lib.ListN.{length, take, drop, length-append, length-drop}
-use lib.Seq.{take-all, drop-at}
+use lib.Seq.{take-all, drop-at, length-take-le}
 use Rattle.xor.specs.Xor.{bytes-good}
 use Rattle.grid.specs.Grid.{Board, columns, grid-rows, row-long, board-refusal}
 use Rattle.grid.proofs.Facts.{Board-in, board-in, board-accepted}
-use Rattle.keys.specs.Keys.{key-refusal, head-in, header, stride, row-part}
+use Rattle.keys.specs.Keys.{key-refusal, head-in, header, stride, row-part, opened-part, opened, parts-of, parts-in, table-from, table}
+use Rattle.opening.specs.Shares.{in-front}
 use Rattle.keys.proofs.Numbers.{header-reads}
 use Rattle.keys.proofs.Accepted.{Body-in, key-in, body-in}
 
 -- how many bytes stand behind a header
 abbrev pub body-long : Board → ℕ
 body-long b = grid-rows b * stride b + columns b * row-long b
+
+-- a table's length is far from the largest number
+pub table-most : (b : Board) → Board-in b → b .n * b .w ≤ 1048576
+table-most b f = mul-le-mul (f .positions-most) (f .value-most)
+
+-- OUTPUT: what is written in front of a lent list
+
+pub prefix-long : (n : ℕ) (xs : List ℕ) → n ≤ length xs → n ≡ length (take n xs)
+prefix-long n xs h = sym (length-take-le n xs h)
+
+pub put-in-front : (written new old : List ℕ) (n : ℕ) → written ≡ new → n ≤ length old → length written ≡ length (take n old) → written ++ drop n old ≡ in-front new old
+unfolding in-front
+put-in-front written new old n e h long =
+    let size : n ≡ length new = prefix-long n old h ∙ sym long ∙ ap length e in
+    rw (e, size)
+
+-- THE BYTES BEHIND THE HEADER
 
 module _ (ks : List ℕ) (b : Board) (accepted : key-refusal ks ≡ 0) (read : head-in ks .board ≡ b) where
   pub key-board : Board-in b
@@ -48,3 +66,14 @@ module _ (ks : List ℕ) (b : Board) (accepted : key-refusal ks ≡ 0) (read : h
       rw start
       (take-all (length ks - length h) (drop (length h) ks) (rw length-drop (omega arith))
       ∙ ap (λ (l : List ℕ). drop (length h) l) whole ∙ drop-at h (head-in ks .rest) (length h) refl)
+
+  -- document 03's table and opening of a square, by the bytes behind the header
+  pub table-is : (f : List ℕ → List ℕ) (bs : List ℕ) → bs ≡ head-in ks .rest → table-from (b .n) 0 b f (parts-of b bs) ≡ table f ks
+  unfolding table parts-in
+  table-is f bs e =
+      rw e (sym (ap (λ (c : Board). table-from (c .n) 0 c f (parts-of c (head-in ks .rest))) read))
+
+  pub opened-is : (f : List ℕ → List ℕ) (bs : List ℕ) (a : ℕ) → bs ≡ head-in ks .rest → opened-part b f (row-part b bs (a / b .wide)) a ≡ opened f ks a
+  unfolding opened
+  opened-is f bs a e =
+      rw e (sym (ap (λ (c : Board). opened-part c f (row-part c (head-in ks .rest) (a / c .wide)) a) read))
