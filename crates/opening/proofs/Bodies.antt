@@ -2,16 +2,17 @@
 use mathlib.Core.Path.{_≡_, refl, sym, ap, _∙_, subst}
 use mathlib.Core.Bool.{true}
 use mathlib.Core.List.{List, _++_}
-use Prim.Native.Nat.{ℕ, suc, _+_, _*_, _-_, _/_, _≤_, _<_}
+use Prim.Native.Nat.{ℕ, suc, _+_, _*_, _-_, _/_, _%_, _≤_, _<_}
 use native.Mathlib.Nat.{mul-le-mul}
 use native.Mathlib.Omega.{arith}
 use lib.ListN.{length, take, drop, length-append, length-drop}
 use lib.Seq.{take-all, drop-at, length-take-le}
 use Rattle.xor.specs.Xor.{bytes-good}
 use Rattle.grid.specs.Grid.{Board, columns, grid-rows, row-long, board-refusal}
-use Rattle.grid.proofs.Facts.{Board-in, board-in, board-accepted}
+use Rattle.grid.proofs.Facts.{Board-in, board-accepted, cell-in, cell-fits}
 use Rattle.keys.specs.Keys.{key-refusal, head-in, header, stride, row-part, opened-part, opened, parts-of, parts-in, table-from, table}
-use Rattle.opening.specs.Shares.{in-front}
+use Rattle.opening.specs.Shares.{in-front, shares}
+use Rattle.opening.proofs.Tables.{opened-shares}
 use Rattle.keys.proofs.Numbers.{header-reads}
 use Rattle.keys.proofs.Accepted.{Body-in, key-in, body-in}
 
@@ -22,6 +23,10 @@ body-long b = grid-rows b * stride b + columns b * row-long b
 -- a table's length is far from the largest number
 pub table-most : (b : Board) → Board-in b → b .n * b .w ≤ 1048576
 table-most b f = mul-le-mul (f .positions-most) (f .value-most)
+
+-- a cell lies in its row
+pub cell-within : (b : Board) → Board-in b → (a : ℕ) → a % b .wide * b .w + b .w ≤ row-long b
+cell-within b f a = omega (arith, cell-fits b (a % b .wide) (cell-in b f a))
 
 -- OUTPUT: what is written in front of a lent list
 
@@ -73,7 +78,11 @@ module _ (ks : List ℕ) (b : Board) (accepted : key-refusal ks ≡ 0) (read : h
   table-is f bs e =
       rw e (sym (ap (λ (c : Board). table-from (c .n) 0 c f (parts-of c (head-in ks .rest))) read))
 
-  pub opened-is : (f : List ℕ → List ℕ) (bs : List ℕ) (a : ℕ) → bs ≡ head-in ks .rest → opened-part b f (row-part b bs (a / b .wide)) a ≡ opened f ks a
+  opened-is : (f : List ℕ → List ℕ) (bs : List ℕ) (a : ℕ) → bs ≡ head-in ks .rest → opened-part b f (row-part b bs (a / b .wide)) a ≡ opened f ks a
   unfolding opened
   opened-is f bs a e =
       rw e (sym (ap (λ (c : Board). opened-part c f (row-part c (head-in ks .rest) (a / c .wide)) a) read))
+
+  pub square-is : (f : List ℕ → List ℕ) (bs part : List ℕ) (a n : ℕ) → bs ≡ head-in ks .rest → part ≡ row-part b bs (a / b .wide) → n ≡ b .w →
+      shares b f part (a / b .wide) (a % b .wide * b .w) n ≡ opened f ks a
+  square-is f bs part a n e p w = rw (p, w) (sym (opened-shares b f (row-part b bs (a / b .wide)) a) ∙ opened-is f bs a e)
