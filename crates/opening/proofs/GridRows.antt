@@ -1,0 +1,155 @@
+-- One grid row after another: where each begins in the key and in the table, how much of it the table has, and what is written after each.
+-- A short last grid row has all its cells in rows and words, and those below N in the table. Assumes nothing.
+use mathlib.Core.Path.{_≡_, refl, sym, ap, _∙_}
+use mathlib.Core.List.{List, [], _∷_, _++_, append-assoc, append-nil}
+use mathlib.Core.Logic.{_⊎_, ⊎-elim}
+use Prim.Native.Nat.{ℕ, zero, suc, _+_, _*_, _-_, _/_, _≤_, _<_, min}
+use native.Mathlib.Nat.{mul-le-mul-right, le-div-iff-mul-le, lt-div-mul-add, min-eq-left, min-eq-right}
+use native.Mathlib.Decide.{decLe}
+use native.Mathlib.Omega.{arith}
+use lib.ListN.{length, take, drop, length-append, length-drop, drop-of-length-le}
+use lib.Seq.{take-all, take-at, drop-at, drop-drop}
+use Rattle.grid.specs.Grid.{Board, columns, grid-rows, row-long}
+use Rattle.grid.proofs.Facts.{Board-in}
+use Rattle.keys.specs.Keys.{count-marks, stride, row-part, Parts, parts-of, share-by-parts, table-from}
+use Rattle.keys.proofs.Accepted.{Body-in}
+use Rattle.keys.proofs.Opening.{tests-at}
+use Rattle.opening.specs.Shares.{shares}
+use Rattle.opening.proofs.Tables.{grid-row-table}
+
+-- WHERE A GRID ROW STANDS
+
+module _ (b : Board) (board : Board-in b) where
+  -- each grid row begins with a square of the table
+  pub row-begins : (g : ℕ) → g < grid-rows b → g * b .wide < b .n
+  unfolding grid-rows
+  row-begins g h = omega (arith, le-div-iff-mul-le {k = b .wide} {x = suc g} {y = b .n + b .wide - 1} (board .wide-least) .0 h, board .wide-least)
+
+  -- and they have them all
+  pub rows-cover : b .n ≤ grid-rows b * b .wide
+  unfolding grid-rows
+  rows-cover = omega (arith, lt-div-mul-add {a = b .n + b .wide - 1} {b = b .wide} (board .wide-least))
+
+  pub row-in-table : (g : ℕ) → g < grid-rows b → g * row-long b ≤ b .n * b .w
+  unfolding row-long
+  row-in-table g h = omega (arith, mul-le-mul-right {m = g * b .wide} {n = b .n} (b .w) (omega (arith, row-begins g h)))
+
+-- the part that begins at a grid row
+behind : (g n s r : ℕ) → g ≤ n → n * s + r - g * s ≡ (n - g) * s + r
+behind g n s r h =
+    let all : g + (n - g) ≡ n = omega arith in
+    let sum : g * s + (n - g) * s ≡ n * s = (let parts : g * s + (n - g) * s ≡ (g + (n - g)) * s = omega arith in parts ∙ ap (λ (m : ℕ). m * s) all) in
+    omega arith
+
+module _ (b : Board) (bs : List ℕ) (g start : ℕ) (place : start ≡ g * stride b) where
+  pub part-is : take (length bs - start) (drop start bs) ≡ row-part b bs g
+  unfolding row-part
+  part-is = take-all (length bs - start) (drop start bs) (rw length-drop (omega arith)) ∙ ap (λ (n : ℕ). drop n bs) place
+
+  pub part-begins : Body-in b bs → g < grid-rows b → start ≤ length bs
+  part-begins body h = omega (arith, body .long, mul-le-mul-right (stride b) h)
+
+  pub part-length : Body-in b bs → g < grid-rows b →
+      length (take (length bs - start) (drop start bs)) ≡ (grid-rows b - g) * stride b + columns b * row-long b
+  unfolding row-part
+  part-length body h =
+      ap length part-is ∙ length-drop (g * stride b) bs ∙ ap (λ (n : ℕ). n - g * stride b) (body .long)
+      ∙ behind g (grid-rows b) (stride b) (columns b * row-long b) (omega arith)
+
+  pub part-marks : Body-in b bs → g < grid-rows b → count-marks (columns b) 0 (take (length bs - start) (drop start bs)) ≡ columns b / 2
+  part-marks body h = rw part-is (tests-at (grid-rows b) g b bs h (body .marks))
+
+-- HOW MUCH OF IT THE TABLE HAS
+
+cells-min : (w l d at : ℕ) → Dec (l ≤ d) → min (l * w) (at + d * w - at) ≡ min l d * w
+cells-min w l d at (yes h) = rw (min-eq-left h) (omega (arith, mul-le-mul-right w h))
+cells-min w l d at (no h) =
+    let less : d ≤ l = omega arith in
+    rw (min-eq-right less) (omega (arith, mul-le-mul-right w less))
+
+-- the cells of grid row g that are squares of the table
+abbrev pub cells-in : Board → (g : ℕ) → ℕ
+cells-in b g = min (b .wide) (b .n - g * b .wide)
+
+module _ (b : Board) (board : Board-in b) (g : ℕ) (inside : g < grid-rows b) where
+  pub cells-bytes : min (row-long b) (b .n * b .w - g * row-long b) ≡ cells-in b g * b .w
+  unfolding row-long
+  cells-bytes =
+      let left = b .n - g * b .wide in
+      let all : b .n ≡ g * b .wide + left = omega (arith, row-begins b board g inside) in
+      let bytes : b .n * b .w ≡ g * (b .wide * b .w) + left * b .w = ap (λ (n : ℕ). n * b .w) all ∙ omega arith in
+      rw bytes (cells-min (b .w) (b .wide) left (g * (b .wide * b .w)) (decLe (b .wide) left))
+
+  -- by the code's numbers
+  pub count-is : (row total count : ℕ) → row ≡ row-long b → total ≡ b .n * b .w → count ≡ min row (total - g * row) → count ≡ cells-in b g * b .w
+  count-is row total count r t e = e ∙ rw (r, t) cells-bytes
+
+-- WHAT IS WRITTEN after so many grid rows
+
+-- the squares of the first g grid rows
+abbrev pub squares-before : Board → (g : ℕ) → ℕ
+squares-before b g = min (g * b .wide) (b .n)
+
+-- the table of these squares stands in front, and all behind it is as it was lent
+pub record Written (b : Board) (f : List ℕ → List ℕ) (bs old out : List ℕ) (g : ℕ) : Type 0 where
+  pub long : length (table-from (squares-before b g) 0 b f (parts-of b bs)) ≡ squares-before b g * b .w
+  pub bytes : out ≡ table-from (squares-before b g) 0 b f (parts-of b bs) ++ drop (squares-before b g * b .w) old
+
+pub nothing-written : (b : Board) (f : List ℕ → List ℕ) (bs old : List ℕ) → Written b f bs old old 0
+unfolding table-from
+nothing-written b f bs old =
+    let none : squares-before b 0 ≡ 0 = omega arith in
+    let no-bytes : 0 * b .w ≡ 0 = omega arith in
+    record { long = rw (none, no-bytes); bytes = rw (none, no-bytes) }
+
+-- entries one after another
+table-add : (m k a : ℕ) (b : Board) (f : List ℕ → List ℕ) (q : Parts) → table-from (m + k) a b f q ≡ table-from m a b f q ++ table-from k (a + m) b f q
+unfolding table-from
+table-add zero k a b f q =
+    let all : zero + k ≡ k = omega arith in
+    let here : a + zero ≡ a = omega arith in
+    rw (all, here)
+table-add (suc m) k a b f q =
+    let more : suc m + k ≡ suc (m + k) = omega arith in
+    let next : a + suc m ≡ suc a + m = omega arith in
+    rw (more, next, table-add m k (suc a) b f q) (sym (append-assoc (share-by-parts b f q a) (table-from m (suc a) b f q) (table-from k (suc a + m) b f q)))
+
+-- a list in whose middle a part is put back, right behind what is written
+put-behind : (front new old : List ℕ) (at count : ℕ) → length front ≡ at →
+    take at (front ++ drop at old) ++ (new ++ drop count (drop at (front ++ drop at old))) ≡ front ++ new ++ drop (at + count) old
+put-behind front new old at count e =
+    rw (take-at front (drop at old) at e, drop-at front (drop at old) at e, drop-drop count at old) (sym (append-assoc front new (drop (at + count) old)))
+
+-- one more grid row
+module _ (b : Board) (f : List ℕ → List ℕ) (bs : List ℕ) (board : Board-in b) (body : Body-in b bs) (g : ℕ) (inside : g < grid-rows b) where
+  pub row-written : (old out part new : List ℕ) (at count room : ℕ) → at ≡ g * row-long b → count ≡ cells-in b g * b .w → Written b f bs old out g →
+      part ≡ row-part b bs g → room ≡ count → new ≡ shares b f part g 0 room → length new ≡ room →
+      Written b f bs old (take at out ++ (new ++ drop count (drop at out))) (g + 1)
+  unfolding row-long
+  row-written old out part new at count room place size so-far from-here fits is new-long =
+      let long : length new ≡ count = new-long ∙ fits in
+      let m = cells-in b g in
+      let before : squares-before b g ≡ g * b .wide = omega (arith, row-begins b board g inside) in
+      let after : squares-before b (g + 1) ≡ g * b .wide + m = omega (arith, row-begins b board g inside) in
+      let start : g * b .wide * b .w ≡ at = omega arith in
+      let front = table-from (g * b .wide) 0 b f (parts-of b bs) in
+      let front-long : length front ≡ at = (rw before at (so-far .long)) ∙ start in
+      let here : 0 + g * b .wide ≡ g * b .wide = omega arith in
+      let table-is : table-from (g * b .wide + m) 0 b f (parts-of b bs) ≡ front ++ new =
+      table-add (g * b .wide) m 0 b f (parts-of b bs)
+      ∙ rw (here, is, from-here, fits, size) (ap (λ (l : List ℕ). front ++ l) (grid-row-table b f bs g m board body (omega arith) (omega (arith, row-begins b board g inside)))) in
+      let end : (g * b .wide + m) * b .w ≡ at + count = omega arith in
+      record {
+        long = rw (after, end, table-is) (length-append front new ∙ omega arith);
+        bytes = rw (after, end, table-is, so-far .bytes, before, start) (put-behind front new old at count front-long);
+      }
+
+-- after the last one nothing is as it was lent
+pub all-written : (b : Board) (f : List ℕ → List ℕ) (bs old out : List ℕ) (g : ℕ) → Board-in b → grid-rows b ≤ g → g ≤ grid-rows b → length old ≡ b .n * b .w →
+    Written b f bs old out g → out ≡ table-from (b .n) 0 b f (parts-of b bs)
+all-written b f bs old out g board past within long so-far =
+    let last : g ≡ grid-rows b = omega arith in
+    let all : squares-before b g ≡ b .n = rw last (omega (arith, rows-cover b board)) in
+    let short : length old ≤ b .n * b .w = omega arith in
+    let none : drop (b .n * b .w) old ≡ [] = drop-of-length-le old short in
+    so-far .bytes ∙ rw (all, none) (append-nil (table-from (b .n) 0 b f (parts-of b bs)))
