@@ -1,1 +1,5 @@
+-- The laws of dealing. Assumes nothing.
 pub mod RowBytes
+pub mod LastWord
+pub mod Lending
+pub mod KeyBytes

@@ -4,14 +4,15 @@ use mathlib.Core.Bool.{Bool, true, false, cond}
 use mathlib.Core.List.{List, [], _∷_, _++_, append-assoc, append-nil}
 use Prim.Native.Nat.{ℕ, zero, suc, _+_, _*_, _-_, _/_, _%_, _^_, _≤_, _<_}
 use native.Mathlib.Omega.{arith}
-use native.Mathlib.Nat.{add-zero, zero-add, lt-of-lt-of-le}
+use native.Mathlib.Nat.{lt-of-lt-of-le, mul-le-mul-right}
 use lib.Pow.{pow-mono}
 use native.Mathlib.Numerals.{add-one}
 use lib.ListN.{length, getD, take, drop, length-append, length-drop, drop-of-length-le, List·getD-eq-default}
 use lib.Dec.{leb}
-use lib.Seq.{drop-cons, drop-drop, drop-nil, take-suc, length-take-le}
+use lib.Seq.{drop-cons, drop-drop, take-all, length-take-le}
 use borrow.Author.Tests.{leb-true, leb-false}
-use Rattle.grid.specs.Grid.{Board, columns, bit}
+use Rattle.grid.specs.Grid.{Board, columns, grid-rows, bit}
+use Rattle.grid.proofs.Facts.{Board-in, columns-most}
 use Rattle.keys.specs.Keys.{packed-from, packed, held-seeds, mark-bytes, body-from}
 use Rattle.keys.proofs.Marks.{bit-nothing}
 use Rattle.writer.specs.Written.{Wrote}
@@ -56,16 +57,18 @@ packed-next n i from cs = go (leb (length cs) from) refl
     none : (m : ℕ) → packed-from m 0 i [] ≡ 0
     none zero = refl
     none (suc m) = refl
+
     digit : (t : Bool) (few more : ℕ) → more ≡ 2 * few → few * 2 + cond t 1 0 ≡ cond t 1 0 + more
     digit true few more e = omega arith
     digit false few more e = omega arith
+
     go : (t : Bool) → leb (length cs) from ≡ t →
         packed-from n 0 i (drop (suc from) cs) * 2 + cond (bit (getD cs from 0) i) 1 0 ≡ packed-from (suc n) 0 i (drop from cs)
     go true e =
         let past = leb-true (length cs) from e in
         rw (drop-of-length-le cs past, drop-of-length-le cs {i = suc from} (omega arith), List·getD-eq-default cs 0 past, bit-nothing i, none n)
     go false e =
-        rw (drop-cons cs from 0 (leb-false (length cs) from e)) 
+        rw (drop-cons cs from 0 (leb-false (length cs) from e))
         (digit (bit (getD cs from 0) i) (packed-from n 0 i (drop (suc from) cs)) (packed-from n 1 i (drop (suc from) cs)) (packed-double n 0 i (drop (suc from) cs)))
 
 -- PACKED BYTES, one more
@@ -122,7 +125,7 @@ held-within j i cs ss h =
     let next = cond (bit (getD cs j 0) i) (take 32 (drop (32 * j) ss)) [] in
     let behind = held-seeds i (drop (suc j) cs) (drop (32 * suc j) ss) in
     let whole : length (held-seeds i cs ss) ≡ length (before ++ next) + length behind =
-        ap length (held-split (suc j) i cs ss ∙ ap (λ (l : List ℕ). l ++ behind) (held-snoc j i cs ss h)) ∙ length-append (before ++ next) behind in
+    ap length (held-split (suc j) i cs ss ∙ ap (λ (l : List ℕ). l ++ behind) (held-snoc j i cs ss h)) ∙ length-append (before ++ next) behind in
     omega (arith, length-append before next)
 
 -- writing one more
@@ -165,7 +168,7 @@ body-split (suc k) m b i cs ss =
     let next : J + k * J ≡ suc k * J = omega arith in
     let next-seeds : 32 * J + 32 * (k * J) ≡ 32 * (suc k * J) = omega arith in
     let behind : body-from m b i (drop (k * J) (drop J cs)) (drop (32 * (k * J)) (drop (32 * J) ss)) ≡ body-from m b i (drop (suc k * J) cs) (drop (32 * (suc k * J)) ss) =
-        rw (drop-drop (k * J) J cs, next, drop-drop (32 * (k * J)) (32 * J) ss, next-seeds) in
+    rw (drop-drop (k * J) J cs, next, drop-drop (32 * (k * J)) (32 * J) ss, next-seeds) in
     rw more
     (ap (λ (l : List ℕ). first ++ l) (body-split k m b i (drop J cs) (drop (32 * J) ss) ∙ ap (λ (l : List ℕ). body-from k b i (drop J cs) (drop (32 * J) ss) ++ l) behind)
     ∙ sym (append-assoc first (body-from k b i (drop J cs) (drop (32 * J) ss)) (body-from m b i (drop (suc k * J) cs) (drop (32 * (suc k * J)) ss))))
@@ -186,9 +189,40 @@ body-within k n b i cs ss h =
     let row = row-at k b i cs ss in
     let behind = body-from rest b i (drop ((k + 1) * columns b) cs) (drop (32 * ((k + 1) * columns b)) ss) in
     let whole : length (body-from n b i cs ss) ≡ length (front ++ row) + length behind =
-        ap (λ (m : ℕ). length (body-from m b i cs ss)) (sym all) ∙ ap length (body-split (k + 1) rest b i cs ss) ∙ length-append (body-from (k + 1) b i cs ss) behind
-        ∙ ap (λ (l : List ℕ). length l + length behind) (body-snoc k b i cs ss) in
+    ap (λ (m : ℕ). length (body-from m b i cs ss)) (sym all) ∙ ap length (body-split (k + 1) rest b i cs ss) ∙ length-append (body-from (k + 1) b i cs ss) behind
+    ∙ ap (λ (l : List ℕ). length l + length behind) (body-snoc k b i cs ss) in
     omega (arith, length-append front row)
+
+-- grid row k as the code cuts it out
+pub row-here : (k J m player : ℕ) (b : Board) (arrays seeds : List ℕ) → J ≡ columns b → m ≡ mark-bytes b →
+    row-bytes m player (take (k * J + J - k * J) (drop (k * J) arrays)) (take (length seeds - 32 * (k * J)) (drop (32 * (k * J)) seeds)) ≡ row-at k b player arrays seeds
+unfolding row-at
+row-here k J m player b arrays seeds e f =
+    let part : k * J + J - k * J ≡ J = omega arith in
+    let rest : take (length seeds - 32 * (k * J)) (drop (32 * (k * J)) seeds) ≡ drop (32 * (k * J)) seeds =
+    take-all (length seeds - 32 * (k * J)) (drop (32 * (k * J)) seeds) (rw length-drop (omega arith)) in
+    rw (part, rest, e, f)
+
+-- its array is there
+pub row-room : (k J n : ℕ) (b : Board) (arrays : List ℕ) → J ≡ columns b → n ≡ grid-rows b → k < n → length arrays ≡ grid-rows b * columns b → k * J + J ≤ length arrays
+row-room k J n b arrays e f h long =
+    let within : suc k ≤ grid-rows b = omega arith in
+    rw (e, long) (omega (arith, mul-le-mul-right (columns b) within))
+
+-- and its seeds
+pub row-seeds : (from J : ℕ) (arrays seeds : List ℕ) → from + J ≤ length arrays → length seeds ≡ 32 * length arrays →
+    32 * length (take (from + J - from) (drop from arrays)) ≤ length (take (length seeds - 32 * from) (drop (32 * from) seeds))
+row-seeds from J arrays seeds h long =
+    let part : from + J - from ≡ J = omega arith in
+    let array : length (take J (drop from arrays)) ≡ J = length-take-le J (drop from arrays) (rw length-drop (omega arith)) in
+    let behind : length (take (length seeds - 32 * from) (drop (32 * from) seeds)) ≡ length seeds - 32 * from =
+    length-take-le (length seeds - 32 * from) (drop (32 * from) seeds) (rw length-drop (omega arith)) in
+    rw (part, array, behind) (omega arith)
+
+-- a grid row has at most five bytes of marks
+pub mark-bytes-most : (b : Board) → Board-in b → mark-bytes b ≤ 100
+unfolding mark-bytes
+mark-bytes-most b f = omega (arith, columns-most b f)
 
 -- writing one more
 pub rows-turn : (at k n player : ℕ) {next after : ℕ} (b : Board) (arrays seeds : List ℕ) {old between now : List ℕ} → k < n →

@@ -6,7 +6,7 @@ ghost use Prim.Native.Nat.{_+_, _*_, _/_, _≤_, _<_};
 ghost use lib.ListN.{length, getD, drop};
 ghost use Rattle.grid.specs.Grid.{bit, board-refusal, columns, grid-rows};
 ghost use Rattle.grid.specs.Code.{board-of};
-ghost use Rattle.keys.specs.Keys.{packed-from, packed, held-seeds, body-from};
+ghost use Rattle.keys.specs.Keys.{packed-from, packed, held-seeds, body-from, mark-bytes};
 ghost use Rattle.dealing.specs.Rows.{mark-digit, row-bytes};
 ghost use Rattle.writer.specs.Written.{Wrote};
 use grid::board::Board;
@@ -47,6 +47,14 @@ fn mark_byte(array: &[u8], from: usize, player: u32) -> u8
         byte = byte * 2 + mark_digit(array, from + place, player);
     }
     byte
+}
+
+// Bytes of marks in a grid row.
+fn mark_bytes(board: Board) -> usize
+    requires { ⌜ board-refusal (board-of board) ≡ 0 ⌝ }
+    ensures { λ r. ⌜ r ≡ mark-bytes (board-of board) ⌝ }
+{
+    (board.columns() + 7) / 8
 }
 
 // Writes the player's marks in an array, packed into `count` bytes.
@@ -120,14 +128,20 @@ pub fn put_rows(
 {
     let columns = board.columns();
     let grid_rows = board.grid_rows();
-    let mark_bytes = (columns + 7) / 8;
     let mut next = at;
     let mut grid_row: usize = 0;
     while grid_row < grid_rows {
         let from = grid_row * columns;
         let end = from + columns;
         let seed = 32 * from;
-        next = put_row(out, next, player, mark_bytes, &arrays[from..end], &seeds[seed..]);
+        next = put_row(
+            out,
+            next,
+            player,
+            mark_bytes(board),
+            &arrays[from..end],
+            &seeds[seed..],
+        );
         grid_row += 1;
     }
     next
