@@ -3,3 +3,6 @@ pub mod Answering
 pub mod Joining
 pub mod Sizes
 pub mod InTurn
+pub mod Lending
+pub mod Squares
+pub mod JoinedTables

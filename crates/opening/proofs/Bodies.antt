@@ -13,7 +13,7 @@ use Rattle.grid.proofs.Facts.{Board-in, board-accepted, cell-in, cell-fits}
 use Rattle.keys.specs.Keys.{key-refusal, head-in, header, stride, row-part, opened-part, opened, parts-of, parts-in, table-from, table}
 use Rattle.opening.specs.Shares.{in-front, shares}
 use Rattle.opening.proofs.Tables.{opened-shares}
-use Rattle.keys.proofs.Numbers.{header-reads}
+use Rattle.keys.proofs.Numbers.{header-again}
 use Rattle.keys.proofs.Accepted.{Body-in, key-in, body-in}
 
 -- how many bytes stand behind a header
@@ -55,7 +55,7 @@ module _ (ks : List ℕ) (b : Board) (accepted : key-refusal ks ≡ 0) (read : h
   header-before : bytes-good ks ≡ true → length ks ≡ length (header (head-in ks .board) (head-in ks .player)) + body-long b
   header-before good =
       let h = header (head-in ks .board) (head-in ks .player) in
-      let whole = header-reads ks good (key-in ks accepted .header-good) in
+      let whole = header-again ks good (key-in ks accepted .header-good) in
       ap length whole ∙ length-append h (head-in ks .rest) ∙ ap (λ (n : ℕ). length h + n) (key-body good .long)
 
   pub body-within : bytes-good ks ≡ true → body-long b ≤ length ks
@@ -66,7 +66,7 @@ module _ (ks : List ℕ) (b : Board) (accepted : key-refusal ks ≡ 0) (read : h
       take (length ks - (length ks - (rows + words))) (drop (length ks - (rows + words)) ks) ≡ head-in ks .rest
   body-last good rows words r w =
       let h = header (head-in ks .board) (head-in ks .player) in
-      let whole = header-reads ks good (key-in ks accepted .header-good) in
+      let whole = header-again ks good (key-in ks accepted .header-good) in
       let start : length ks - (rows + words) ≡ length h = omega (arith, header-before good) in
       rw start
       (take-all (length ks - length h) (drop (length h) ks) (rw length-drop (omega arith))

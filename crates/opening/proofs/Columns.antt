@@ -9,8 +9,8 @@ use native.Mathlib.Numerals.{add-one}
 use native.Mathlib.Omega.{arith}
 use lib.ListN.{length, take, drop, length-drop}
 use lib.Seq.{length-take-le}
-use Rattle.xor.specs.Xor.{xors, zeros}
-use Rattle.xor.proofs.Laws.{word-zeros}
+use Rattle.xor.specs.Xor.{xors, zeros, bytes-good}
+use Rattle.xor.proofs.Laws.{word-zeros, xors-assoc, xors-self, xors-zeros-right}
 use Rattle.grid.specs.Grid.{Board, columns, grid-rows, row-long}
 use Rattle.keys.specs.Keys.{count-marks, mark-bytes, stride, word-behind}
 use Rattle.keys.specs.Held.{marked}
@@ -61,13 +61,40 @@ count-start J K ps c e =
     let all : J - 0 ≡ K = omega arith in
     rw (all, c) (omega arith)
 
-pub shares-start : (b : Board) (f : List ℕ → List ℕ) (ps : List ℕ) (g s n J : ℕ) (xs : List ℕ) → J ≡ columns b → xs ≡ zeros n →
-    shares-from (J - 0) 0 0 b f ps g s (length xs) xs ≡ shares b f ps g s (length xs)
+-- what is in `out` stays outside of the shares
+shares-xors : (k j q : ℕ) (b : Board) (f : List ℕ → List ℕ) (ps : List ℕ) (g s n : ℕ) (xs ys : List ℕ) →
+    shares-from k j q b f ps g s n (xors xs ys) ≡ xors xs (shares-from k j q b f ps g s n ys)
+unfolding shares-from
+shares-xors zero j q b f ps g s n xs ys = refl
+shares-xors (suc k) j q b f ps g s n xs ys =
+    let one = xors (stretch s n (word-behind b ps g j)) (stretch s n (f (take 32 (drop (mark-bytes b + 32 * q) ps)))) in
+    xors-either (marked ps j) xs _ _ _ _
+    (ap (λ (zs : List ℕ). shares-from k (suc j) (suc q) b f ps g s n zs) (xors-assoc xs ys one) ∙ shares-xors k (suc j) (suc q) b f ps g s n xs (xors ys one))
+    (shares-xors k (suc j) q b f ps g s n xs ys)
+  where
+    xors-either : (t : Bool) (xs us vs ys zs : List ℕ) → us ≡ xors xs ys → vs ≡ xors xs zs → cond t us vs ≡ xors xs (cond t ys zs)
+    xors-either true xs us vs ys zs e h = e
+    xors-either false xs us vs ys zs e h = h
+
+pub shares-start : (b : Board) (f : List ℕ → List ℕ) (ps : List ℕ) (g s J : ℕ) (xs : List ℕ) → J ≡ columns b → bytes-good xs ≡ true →
+    shares-from (J - 0) 0 0 b f ps g s (length xs) xs ≡ xors xs (shares b f ps g s (length xs))
 unfolding shares
-shares-start b f ps g s n J xs c e =
-    let long : length xs ≡ n = ap length e ∙ word-zeros n .long in
+shares-start b f ps g s J xs c good =
+    let n = length xs in
     let all : J - 0 ≡ columns b = omega arith in
-    rw (long, e, all)
+    let alone : xors xs (zeros n) ≡ xs = xors-zeros-right n xs (record { long = refl; good = good }) in
+    rw all (sym (ap (λ (ys : List ℕ). shares-from (columns b) 0 0 b f ps g s n ys) alone) ∙ shares-xors (columns b) 0 0 b f ps g s n xs (zeros n))
+
+-- into zeros they are the shares themselves
+pub shares-fresh : (b : Board) (f : List ℕ → List ℕ) (ps : List ℕ) (g s : ℕ) (old cleared out : List ℕ) → cleared ≡ zeros (length old) →
+    out ≡ xors cleared (shares b f ps g s (length cleared)) → out ≡ shares b f ps g s (length old)
+unfolding shares
+shares-fresh b f ps g s old cleared out z e =
+    let n = length old in
+    let long : length cleared ≡ n = ap length z ∙ word-zeros n .long in
+    let both : xors (zeros n) (zeros n) ≡ zeros n = xors-self (zeros n) ∙ ap zeros (word-zeros n .long) in
+    e ∙ rw (long, z)
+    (sym (shares-xors (columns b) 0 0 b f ps g s n (zeros n) (zeros n)) ∙ ap (λ (ys : List ℕ). shares-from (columns b) 0 0 b f ps g s n ys) both)
 
 pub shares-end : (b : Board) (f : List ℕ → List ℕ) (ps : List ℕ) (g s n J j q : ℕ) (xs all : List ℕ) → J ≤ j → shares-from (J - j) j q b f ps g s n xs ≡ all → xs ≡ all
 unfolding shares-from

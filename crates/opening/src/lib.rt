@@ -13,7 +13,7 @@ ghost use Rattle.xor.specs.Xor.{xors, zeros};
 ghost use Rattle.chacha20.specs.Expand.{expand};
 ghost use Rattle.grid.specs.Grid.{board-refusal, columns, grid-rows, row-long};
 ghost use Rattle.grid.specs.Code.{board-of};
-ghost use Rattle.keys.specs.Keys.{count-marks, stride, marks-good, key-refusal, head-in, opened, parts-of, table-from, table};
+ghost use Rattle.keys.specs.Keys.{count-marks, stride, marks-good, key-refusal, head-in, row-part, opened, parts-of, table-from, table};
 ghost use Rattle.opening.specs.Shares.{stretch, shares, in-front};
 
 // Makes every byte zero.
@@ -39,9 +39,9 @@ fn add_column(seed: &[u8], word: &[u8], from: usize, row: &mut [u8], out: &mut [
     xor::xor_into(out, &row[from..end]);
 }
 
-// Fills `out` with the shares of the grid row at which the part begins, from byte `from` of them on: the XOR, over the columns that are
-// marked there, of word and row. `row` has a row's length and is scratch.
-fn open_part(
+// XORs into `out` the shares of the grid row at which the part begins, from byte `from` of them on: over the columns that are marked
+// there, word and row. `row` has a row's length and is scratch.
+fn add_part(
     part: &[u8],
     board: Board,
     grid_row: usize,
@@ -53,9 +53,8 @@ fn open_part(
         × (length (now part) ≡ (grid-rows (board-of board) - «grid_row») * stride (board-of board) + columns (board-of board) * row-long (board-of board))
         × (count-marks (columns (board-of board)) 0 (now part) ≡ columns (board-of board) / 2)
         × (length (now row) ≡ row-long (board-of board)) × (from + length (now out) ≤ row-long (board-of board)) ⌝ }
-    ensures { λ r. ⌜ now (out .exit) ≡ shares (board-of board) (expand (row-long (board-of board))) (now (part .entry)) «grid_row» from (length (now (out .entry))) ⌝ }
+    ensures { λ r. ⌜ now (out .exit) ≡ xors (now (out .entry)) (shares (board-of board) (expand (row-long (board-of board))) (now (part .entry)) «grid_row» from (length (now (out .entry)))) ⌝ }
 {
-    clear(out);
     let columns = board.columns();
     let words = (board.grid_rows() - grid_row) * stride(board);
     let row_bytes = row.len();
@@ -73,6 +72,25 @@ fn open_part(
     }
 }
 
+// Fills `out` with these shares.
+fn open_part(
+    part: &[u8],
+    board: Board,
+    grid_row: usize,
+    from: usize,
+    row: &mut [u8],
+    out: &mut [u8],
+)
+    requires { ⌜ (board-refusal (board-of board) ≡ 0) × («grid_row» < grid-rows (board-of board))
+        × (length (now part) ≡ (grid-rows (board-of board) - «grid_row») * stride (board-of board) + columns (board-of board) * row-long (board-of board))
+        × (count-marks (columns (board-of board)) 0 (now part) ≡ columns (board-of board) / 2)
+        × (length (now row) ≡ row-long (board-of board)) × (from + length (now out) ≤ row-long (board-of board)) ⌝ }
+    ensures { λ r. ⌜ now (out .exit) ≡ shares (board-of board) (expand (row-long (board-of board))) (now (part .entry)) «grid_row» from (length (now (out .entry))) ⌝ }
+{
+    clear(out);
+    add_part(part, board, grid_row, from, row, out);
+}
+
 // The bytes of an accepted key behind its header.
 fn body_of(key: &[u8], board: Board) -> &[u8]
     requires { ⌜ (key-refusal (now key) ≡ 0) × (head-in (now key) .board ≡ board-of board) ⌝ }
@@ -84,6 +102,15 @@ fn body_of(key: &[u8], board: Board) -> &[u8]
     &key[start..]
 }
 
+// The part of the bytes behind a header that begins at a grid row.
+fn row_part(body: &[u8], board: Board, grid_row: usize) -> &[u8]
+    requires { ⌜ (board-refusal (board-of board) ≡ 0) × («grid_row» * stride (board-of board) ≤ length (now body)) ⌝ }
+    ensures { λ r. ⌜ now r ≡ row-part (board-of board) (now (body .entry)) «grid_row» ⌝ }
+{
+    let start = grid_row * stride(board);
+    &body[start..]
+}
+
 // Writes the square's share, worked out of the header's numbers and the part of the key that begins at the square's grid row.
 pub fn open_square(key: &[u8], board: Board, position: u32, out: &mut [u8])
     requires { ⌜ (key-refusal (now key) ≡ 0) × (head-in (now key) .board ≡ board-of board) × (position < board .positions) × (board .«value_bytes» ≤ length (now out)) ⌝ }
@@ -93,11 +120,10 @@ pub fn open_square(key: &[u8], board: Board, position: u32, out: &mut [u8])
     let mut scratch = [0u8; 4096];
     let row_bytes = board.row_length();
     let grid_row = (position / board.width) as usize;
-    let start = grid_row * stride(board);
     let from = ((position % board.width) * board.value_bytes) as usize;
     let count = board.value_bytes as usize;
     open_part(
-        &body[start..],
+        row_part(body, board, grid_row),
         board,
         grid_row,
         from,
@@ -113,8 +139,34 @@ fn least(first: usize, second: usize) -> usize
     if first < second { first } else { second }
 }
 
-// Fills `out` with the table of the bytes behind a header, grid row by grid row. Rows and words have all cells of a short last grid row,
+// XORs into `out` the table of the bytes behind a header, grid row by grid row. Rows and words have all cells of a short last grid row,
 // the table those below N. `row` has a row's length and is scratch.
+fn add_rows(body: &[u8], board: Board, row: &mut [u8], out: &mut [u8])
+    requires { ⌜ (board-refusal (board-of board) ≡ 0)
+        × (length (now body) ≡ grid-rows (board-of board) * stride (board-of board) + columns (board-of board) * row-long (board-of board))
+        × (marks-good (grid-rows (board-of board)) (board-of board) (now body) ≡ true)
+        × (length (now row) ≡ row-long (board-of board)) × (length (now out) ≡ board .positions * board .«value_bytes») ⌝ }
+    ensures { λ r. ⌜ now (out .exit) ≡ xors (now (out .entry)) (table-from (board .positions) 0 (board-of board) (expand (row-long (board-of board))) (parts-of (board-of board) (now (body .entry)))) ⌝ }
+{
+    let grid_rows = board.grid_rows();
+    let row_bytes = row.len();
+    let mut grid_row: usize = 0;
+    while grid_row < grid_rows {
+        let at = grid_row * row_bytes;
+        let end = at + least(row_bytes, out.len() - at);
+        add_part(
+            row_part(body, board, grid_row),
+            board,
+            grid_row,
+            0,
+            row,
+            &mut out[at..end],
+        );
+        grid_row += 1;
+    }
+}
+
+// Fills `out` with this table.
 fn open_rows(body: &[u8], board: Board, row: &mut [u8], out: &mut [u8])
     requires { ⌜ (board-refusal (board-of board) ≡ 0)
         × (length (now body) ≡ grid-rows (board-of board) * stride (board-of board) + columns (board-of board) * row-long (board-of board))
@@ -122,16 +174,8 @@ fn open_rows(body: &[u8], board: Board, row: &mut [u8], out: &mut [u8])
         × (length (now row) ≡ row-long (board-of board)) × (length (now out) ≡ board .positions * board .«value_bytes») ⌝ }
     ensures { λ r. ⌜ now (out .exit) ≡ table-from (board .positions) 0 (board-of board) (expand (row-long (board-of board))) (parts-of (board-of board) (now (body .entry))) ⌝ }
 {
-    let grid_rows = board.grid_rows();
-    let row_bytes = row.len();
-    let mut grid_row: usize = 0;
-    while grid_row < grid_rows {
-        let start = grid_row * stride(board);
-        let at = grid_row * row_bytes;
-        let end = at + least(row_bytes, out.len() - at);
-        open_part(&body[start..], board, grid_row, 0, row, &mut out[at..end]);
-        grid_row += 1;
-    }
+    clear(out);
+    add_rows(body, board, row, out);
 }
 
 // Writes the full table.
@@ -147,5 +191,20 @@ pub fn open_table(key: &[u8], board: Board, out: &mut [u8])
         board,
         &mut scratch[..row_bytes],
         &mut out[..count],
+    );
+}
+
+// XORs the full table into `out`.
+pub fn add_table(key: &[u8], board: Board, out: &mut [u8])
+    requires { ⌜ (key-refusal (now key) ≡ 0) × (head-in (now key) .board ≡ board-of board) × (length (now out) ≡ board .positions * board .«value_bytes») ⌝ }
+    ensures { λ r. ⌜ now (out .exit) ≡ xors (now (out .entry)) (table (expand (row-long (board-of board))) (now (key .entry))) ⌝ }
+{
+    let mut scratch = [0u8; 4096];
+    let row_bytes = board.row_length();
+    add_rows(
+        body_of(key, board),
+        board,
+        &mut scratch[..row_bytes],
+        out,
     );
 }

@@ -1,216 +1,45 @@
--- `opening::open_rows` meets its contract. The loop's invariant: the table of the grid rows that are done stands in front, and all behind it is
--- as it was lent. Assumes nothing.
-use mathlib.Core.Path.{_≡_, refl, sym, ap, _∙_}
-use mathlib.Core.Bool.{true}
-use mathlib.Core.List.{List}
-use Prim.Native.Nat.{ℕ, _≤_, _<_, _+_, _*_, _-_, min}
-use native.Mathlib.Omega.{arith}
-use lib.ListN.{length, take, drop}
+-- `opening::open_rows` meets its contract. Assumes nothing.
+use mathlib.Core.Path.{_≡_}
+use lib.ListN.{length}
 use denote.Ref.{now}
-use borrow.Author.Needs.{needs}
-use borrow.Rule.Slice.PartMut.{same-len-mid}
-use Rattle.chacha20.specs.Expand.{expand}
 use Rattle.xor.proofs.Laws.{good-by-entries}
-use Rattle.grid.specs.Grid.{board, grid-rows, row-long}
+use Rattle.grid.specs.Grid.{board}
 use Rattle.grid.specs.Code.{board-of}
-use Rattle.grid.proofs.Facts.{Board-in, board-in}
-use Rattle.keys.specs.Keys.{stride}
-use Rattle.keys.proofs.Accepted.{Body-in}
-use Rattle.opening.proofs.Columns.{part-long, part-whole}
-use Rattle.opening.proofs.GridRows.{row-in-table, part-is, part-begins, part-length, part-marks, count-is, Written, nothing-written, row-written, all-written}
+use Rattle.grid.proofs.Facts.{board-in}
+use Rattle.opening.proofs.GridRows.{expansion, table-fresh}
+use borrow.Author.Needs.{needs}
 use Rattle.opening.proofs.open_rows.Statement.{statement}
 use Rattle.opening.proofs.open_rows.Tie as tie
 use Rattle.opening.proofs.open_rows.Reads as reads
 use Rattle.opening.proofs.open_rows.Lts as lts
-use Rattle.grid.proofs.board.Board.grid_rows.Reads as grid-rows-reads
-use Rattle.keys.proofs.grid_row.stride.Reads as stride-reads
-use Rattle.opening.proofs.least.Reads as least-reads
-use Rattle.opening.proofs.open_part.Reads as open-part-reads
+use Rattle.opening.proofs.add_rows.Reads as add-rows-reads
+use Rattle.opening.proofs.clear.Reads as clear-reads
 
-abbrev Inv-loop : tie.InvT-loop
-Inv-loop body board row₀ out₀ grid-rows row-bytes grid-row₀ row out grid-row =
-    let b = board-of board in
-    (grid-row ≤ grid-rows) × (length row ≡ row-bytes) × (length out ≡ length out₀) × Written b (expand (row-long b)) body out₀ out grid-row
+clear-requires : tie.Need-clear-requires
+clear-requires c κs = search needs
 
-abbrev μ-loop : tie.MeasureT-loop
-μ-loop body board row₀ out₀ grid-rows row-bytes grid-row₀ row out grid-row = grid-rows - grid-row
+add-rows-requires : tie.Need-add-rows-requires
+add-rows-requires c κs = search needs
 
--- the function's entry, from the place before the loop, and what is known there
-abbrev entry : tie.After-grid-rows Inv-loop μ-loop → tie.Start Inv-loop μ-loop
-entry c = c .before .before .before .before
+same-length : tie.Need-same-length
+same-length c = search needs
 
-board-known : (c : tie.Start Inv-loop μ-loop) → Board-in (board-of (c .args .board))
-board-known c = board-in (board-of (c .args .board)) (c .pre .0)
+same-length-2 : tie.Need-same-length-2
+same-length-2 c = search needs
 
-out-long : (c : tie.Start Inv-loop μ-loop) → length (now (c .args .out)) ≡ board-of (c .args .board) .n * board-of (c .args .board) .w
-unfolding board
-out-long c = c .pre .4
-
-body-known : (c : tie.After-grid-rows Inv-loop μ-loop) → Body-in (board-of (entry c .args .board)) (now (entry c .args .body))
-body-known c =
-    record {
-      long = entry c .pre .1;
-      good = good-by-entries (now (entry c .args .body)) (λ i within. c .before .before .before .shared-slice-known .given i .fits);
-      marks = entry c .pre .2;
-    }
-
--- in a turn: the grid row exists, where it begins in the body and in the table, and how many bytes the table has of it
-inside : (c : tie.In-loop Inv-loop μ-loop) → c .before .loop .grid-row < grid-rows (board-of (entry (c .before .before) .args .board))
-inside c = omega (arith, c .loop-test .taken, c .before .before .grid-rows .ensures)
-
-start-is : (c : tie.After-stride Inv-loop μ-loop) →
-    c .before .before .loop .grid-row * c .stride .result ≡ c .before .before .loop .grid-row * stride (board-of (entry (c .before .before .before) .args .board))
-start-is c = ap (λ (n : ℕ). c .before .before .loop .grid-row * n) (c .stride .ensures)
-
-at-is : (c : tie.After-stride Inv-loop μ-loop) → let s = entry (c .before .before .before) in
-    c .before .before .loop .grid-row * length (now (s .args .row)) ≡ c .before .before .loop .grid-row * row-long (board-of (s .args .board))
-at-is c = ap (λ (n : ℕ). c .before .before .loop .grid-row * n) (entry (c .before .before .before) .pre .3)
-
-at-within : (c : tie.After-stride Inv-loop μ-loop) → let s = entry (c .before .before .before) in
-    c .before .before .loop .grid-row * length (now (s .args .row)) ≤ length (c .before .before .loop .out)
-at-within c =
-    let l = c .before .before .loop in
-    let s = entry (c .before .before .before) in
-    omega (arith, at-is c, row-in-table (board-of (s .args .board)) (board-known s) (l .grid-row) (inside (c .before)), l .inv .2, out-long s)
-
-start-within : (c : tie.After-stride Inv-loop μ-loop) → let s = entry (c .before .before .before) in
-    c .before .before .loop .grid-row * c .stride .result ≤ length (now (s .args .body))
-start-within c =
-    let m = c .before .before .before in
-    let s = entry m in
-    part-begins (board-of (s .args .board)) (now (s .args .body)) (c .before .before .loop .grid-row) _ (start-is c) (body-known m) (inside (c .before))
-
-end-within : (c : tie.After-least Inv-loop μ-loop) → let s = entry (c .before .before .before .before) in
-    c .before .before .before .loop .grid-row * length (now (s .args .row)) + c .least .result ≤ length (c .before .before .before .loop .out)
-end-within c = omega (arith, c .least .ensures, at-within (c .before))
-
-grid-rows-requires : tie.Need-grid-rows-requires Inv-loop μ-loop
-grid-rows-requires c κs = c .before .before .before .pre .0
-
-loop-holds : tie.Need-loop-holds Inv-loop μ-loop
-loop-holds c = (omega arith, refl, refl, nothing-written _ _ _ _)
-
-stride-requires : tie.Need-stride-requires Inv-loop μ-loop
-stride-requires c κs = entry (c .before .before) .pre .0
-
-mul-start : tie.Need-mul-start Inv-loop μ-loop
-mul-start c = omega (arith, start-within c)
-
-mul-at : tie.Need-mul-at Inv-loop μ-loop
-mul-at c = omega (arith, at-within c)
-
-sub-least : tie.Need-sub-least Inv-loop μ-loop
-sub-least c = at-within c
-
-least-requires : tie.Need-least-requires Inv-loop μ-loop
-least-requires c κs = search needs
-
-add-end : tie.Need-add-end Inv-loop μ-loop
-add-end c = omega (arith, end-within c)
-
-sub-open-part : tie.Need-sub-open-part Inv-loop μ-loop
-sub-open-part c = start-within (c .before)
-
-part-open-part-start : tie.Need-part-open-part-start Inv-loop μ-loop
-part-open-part-start c = start-within (c .before)
-
-part-open-part-end : tie.Need-part-open-part-end Inv-loop μ-loop
-part-open-part-end c = search needs
-
-sub-open-part-2 : tie.Need-sub-open-part-2 Inv-loop μ-loop
-sub-open-part-2 c = omega arith
-
-part-open-part-start-2 : tie.Need-part-open-part-start-2 Inv-loop μ-loop
-part-open-part-start-2 c = omega arith
-
-part-open-part-end-2 : tie.Need-part-open-part-end-2 Inv-loop μ-loop
-part-open-part-end-2 c = end-within (c .before .before)
-
-open-part-requires : tie.Need-open-part-requires Inv-loop μ-loop
-open-part-requires c κs =
-    let n = c .before .before .before in
-    let t = n .before in
-    let l = t .before .before .loop in
-    let m = t .before .before .before in
-    let s = entry m in
-    let b = board-of (s .args .board) in
-    let room = part-whole _ (n .least .result) (l .out) (end-within n) in (
-      s .pre .0,
-      inside (t .before),
-      part-length b _ (l .grid-row) _ (start-is t) (body-known m) (inside (t .before)),
-      part-marks b _ (l .grid-row) _ (start-is t) (body-known m) (inside (t .before)),
-      l .inv .1 ∙ s .pre .3,
-      omega (arith, room, n .least .ensures, s .pre .3),
-    )
-
-add-grid-row : tie.Need-add-grid-row Inv-loop μ-loop
-add-grid-row c = omega arith
-
-loop-less : tie.Need-loop-less Inv-loop μ-loop
-loop-less c = omega arith
-
-loop-again : tie.Need-loop-again Inv-loop μ-loop
-loop-again c =
-    let done = c .before .before .before .before in
-    let n = done .before .before .before .before in
-    let t = n .before in
-    let l = t .before .before .loop in
-    let m = t .before .before .before in
-    let s = entry m in
-    let b = board-of (s .args .board) in
-    let at = l .grid-row * length (now (s .args .row)) in
-    let size = n .least .result in
-    let new = done .open-part .last .1 .1 .1 .1 .1 .0 in
-    let kept = done .open-part .kept .1 .1 .1 .1 in
-    let room = part-whole at size (l .out) (end-within n) in
-    let count = part-long at size in (
-      omega arith,
-      kept .0 ∙ l .inv .1,
-      same-len-mid at (at + size - at) (l .out) new (kept .1 .0) ∙ l .inv .2,
-      row-written b (expand (row-long b)) (now (s .args .body)) (board-known s) (body-known m) (l .grid-row) (inside (t .before)) (now (s .args .out)) (l .out) _ new at (at + size - at) _
-          (at-is t) (count ∙ count-is b (board-known s) (l .grid-row) (inside (t .before)) _ _ size (s .pre .3) (l .inv .2 ∙ out-long s) (n .least .ensures)) (l .inv .3)
-          (part-is b (now (s .args .body)) (l .grid-row) _ (start-is t)) (room ∙ sym count) (done .open-part .ensures) (kept .1 .0),
-    )
-
-same-length : tie.Need-same-length Inv-loop μ-loop
-same-length c = omega arith
-
-same-length-2 : tie.Need-same-length-2 Inv-loop μ-loop
-same-length-2 c = omega arith
-
-returns : tie.Need-returns Inv-loop μ-loop
+returns : tie.Need-returns
 unfolding board
 returns c =
-    let m = c .before .before in
-    let s = entry m in
-    let l = c .before .loop in
-    all-written (board-of (s .args .board)) _ (now (s .args .body)) (now (s .args .out)) (l .out) (l .grid-row) (board-known s) (omega (arith, c .loop-test .left, m .grid-rows .ensures))
-    (omega (arith, l .inv .0, m .grid-rows .ensures)) (out-long s) (l .inv .3)
+    let added = c .before .before .before .before in
+    let cleared = added .before .before .before .before .before in
+    let known = cleared .before .before .before .before in
+    let s = known .before in
+    let b = board-of (s .args .board) in
+    let body = now (s .args .body) in
+    table-fresh b _ body (now (s .args .out)) (cleared .clear .last .0) _ (board-in b (s .pre .0)) (expansion b)
+    (record { long = s .pre .1; good = good-by-entries body (λ i within. known .shared-slice-known .given i .fits); marks = s .pre .2 }) (s .pre .4)
+    (cleared .clear .ensures) (added .add-rows .ensures)
 
 pub open-rows-spec : {M : Type 1} → statement M
 open-rows-spec =
-    tie.close
-    (tie.spec
-    Inv-loop
-    μ-loop
-    grid-rows-requires
-    loop-holds
-    stride-requires
-    mul-start
-    mul-at
-    sub-least
-    least-requires
-    add-end
-    sub-open-part
-    part-open-part-start
-    part-open-part-end
-    sub-open-part-2
-    part-open-part-start-2
-    part-open-part-end-2
-    open-part-requires
-    add-grid-row
-    loop-less
-    loop-again
-    same-length
-    same-length-2
-    returns)
+    tie.close (tie.spec clear-requires add-rows-requires same-length same-length-2 returns)

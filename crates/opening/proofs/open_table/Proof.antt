@@ -11,17 +11,13 @@ use Rattle.xor.proofs.Laws.{good-by-entries}
 use Rattle.grid.specs.Grid.{board, board-refusal, row-long}
 use Rattle.grid.specs.Code.{board-of}
 use Rattle.grid.proofs.Facts.{Board-in}
-use Rattle.grid.proofs.Accepted.{row-most}
+use Rattle.grid.proofs.Facts.{board-in}
+use Rattle.grid.proofs.Sizes.{row-most}
 use Rattle.keys.proofs.Accepted.{Body-in}
 use Rattle.opening.proofs.Bodies.{table-most, prefix-long, put-in-front, key-board, key-board-accepted, key-body, table-is}
 use borrow.Author.Needs.{needs}
 use Rattle.opening.proofs.open_table.Statement.{statement}
 use Rattle.opening.proofs.open_table.Tie as tie
-use Rattle.opening.proofs.open_table.Reads as reads
-use Rattle.opening.proofs.open_table.Lts as lts
-use Rattle.grid.proofs.board.Board.row_length.Reads as row-length-reads
-use Rattle.opening.proofs.body_of.Reads as body-of-reads
-use Rattle.opening.proofs.open_rows.Reads as open-rows-reads
 
 accepted : (c : tie.Start) → board-refusal (board-of (c .args .board)) ≡ 0
 accepted c = key-board-accepted (now (c .args .key)) (board-of (c .args .board)) (c .pre .0) (c .pre .1)
@@ -33,7 +29,7 @@ count-most c = table-most (board-of (c .args .board)) (key-board (now (c .args .
 
 -- a row's length, and that the scratch row has room for it
 row-within : (c : tie.After-row-length) → c .row-length .result ≤ 4096
-row-within c = omega (arith, c .row-length .ensures, row-most _ (accepted (c .before .before .before)))
+row-within c = omega (arith, c .row-length .ensures, row-most _ (board-in _ (accepted (c .before .before .before))))
 
 -- the bytes behind the header
 body-known : (c : tie.After-body-of) → let s = c .before .before .before .before .before in Body-in (board-of (s .args .board)) (now (c .body-of .result))
