@@ -41,23 +41,23 @@ behind g n s r h =
     let sum : g * s + (n - g) * s ≡ n * s = (let parts : g * s + (n - g) * s ≡ (g + (n - g)) * s = omega arith in parts ∙ ap (λ (m : ℕ). m * s) all) in
     omega arith
 
-module _ (b : Board) (bs : List ℕ) (g start : ℕ) (place : start ≡ g * stride b) where
-  pub part-is : take (length bs - start) (drop start bs) ≡ row-part b bs g
-  unfolding row-part
-  part-is = take-all (length bs - start) (drop start bs) (rw length-drop (omega arith)) ∙ ap (λ (n : ℕ). drop n bs) place
+pub part-is : (b : Board) (bs : List ℕ) (g start : ℕ) → start ≡ g * stride b → take (length bs - start) (drop start bs) ≡ row-part b bs g
+unfolding row-part
+part-is b bs g start place =
+    take-all (length bs - start) (drop start bs) (rw length-drop (omega arith)) ∙ ap (λ (n : ℕ). drop n bs) place
 
-  pub part-begins : Body-in b bs → g < grid-rows b → start ≤ length bs
-  part-begins body h = omega (arith, body .long, mul-le-mul-right (stride b) h)
+module _ (b : Board) (bs : List ℕ) (body : Body-in b bs) (g : ℕ) (inside : g < grid-rows b) where
+  pub part-begins : g * stride b ≤ length bs
+  part-begins = omega (arith, body .long, mul-le-mul-right (stride b) inside)
 
-  pub part-length : Body-in b bs → g < grid-rows b →
-      length (take (length bs - start) (drop start bs)) ≡ (grid-rows b - g) * stride b + columns b * row-long b
+  pub part-length : (part : List ℕ) → part ≡ row-part b bs g → length part ≡ (grid-rows b - g) * stride b + columns b * row-long b
   unfolding row-part
-  part-length body h =
-      ap length part-is ∙ length-drop (g * stride b) bs ∙ ap (λ (n : ℕ). n - g * stride b) (body .long)
+  part-length part e =
+      ap length e ∙ length-drop (g * stride b) bs ∙ ap (λ (n : ℕ). n - g * stride b) (body .long)
       ∙ behind g (grid-rows b) (stride b) (columns b * row-long b) (omega arith)
 
-  pub part-marks : Body-in b bs → g < grid-rows b → count-marks (columns b) 0 (take (length bs - start) (drop start bs)) ≡ columns b / 2
-  part-marks body h = rw part-is (tests-at (grid-rows b) g b bs h (body .marks))
+  pub part-marks : (part : List ℕ) → part ≡ row-part b bs g → count-marks (columns b) 0 part ≡ columns b / 2
+  part-marks part e = rw e (tests-at (grid-rows b) g b bs inside (body .marks))
 
 -- HOW MUCH OF IT THE TABLE HAS
 

@@ -13,7 +13,7 @@ ghost use Rattle.xor.specs.Xor.{xors, zeros};
 ghost use Rattle.chacha20.specs.Expand.{expand};
 ghost use Rattle.grid.specs.Grid.{board-refusal, columns, grid-rows, row-long};
 ghost use Rattle.grid.specs.Code.{board-of};
-ghost use Rattle.keys.specs.Keys.{count-marks, stride, marks-good, key-refusal, head-in, opened, parts-of, table-from, table};
+ghost use Rattle.keys.specs.Keys.{count-marks, stride, marks-good, key-refusal, head-in, row-part, opened, parts-of, table-from, table};
 ghost use Rattle.opening.specs.Shares.{stretch, shares, in-front};
 
 // Makes every byte zero.
@@ -84,6 +84,15 @@ fn body_of(key: &[u8], board: Board) -> &[u8]
     &key[start..]
 }
 
+// The part of the bytes behind a header that begins at a grid row.
+fn row_part(body: &[u8], board: Board, grid_row: usize) -> &[u8]
+    requires { ⌜ (board-refusal (board-of board) ≡ 0) × («grid_row» * stride (board-of board) ≤ length (now body)) ⌝ }
+    ensures { λ r. ⌜ now r ≡ row-part (board-of board) (now (body .entry)) «grid_row» ⌝ }
+{
+    let start = grid_row * stride(board);
+    &body[start..]
+}
+
 // Writes the square's share, worked out of the header's numbers and the part of the key that begins at the square's grid row.
 pub fn open_square(key: &[u8], board: Board, position: u32, out: &mut [u8])
     requires { ⌜ (key-refusal (now key) ≡ 0) × (head-in (now key) .board ≡ board-of board) × (position < board .positions) × (board .«value_bytes» ≤ length (now out)) ⌝ }
@@ -93,11 +102,10 @@ pub fn open_square(key: &[u8], board: Board, position: u32, out: &mut [u8])
     let mut scratch = [0u8; 4096];
     let row_bytes = board.row_length();
     let grid_row = (position / board.width) as usize;
-    let start = grid_row * stride(board);
     let from = ((position % board.width) * board.value_bytes) as usize;
     let count = board.value_bytes as usize;
     open_part(
-        &body[start..],
+        row_part(body, board, grid_row),
         board,
         grid_row,
         from,
@@ -126,10 +134,16 @@ fn open_rows(body: &[u8], board: Board, row: &mut [u8], out: &mut [u8])
     let row_bytes = row.len();
     let mut grid_row: usize = 0;
     while grid_row < grid_rows {
-        let start = grid_row * stride(board);
         let at = grid_row * row_bytes;
         let end = at + least(row_bytes, out.len() - at);
-        open_part(&body[start..], board, grid_row, 0, row, &mut out[at..end]);
+        open_part(
+            row_part(body, board, grid_row),
+            board,
+            grid_row,
+            0,
+            row,
+            &mut out[at..end],
+        );
         grid_row += 1;
     }
 }

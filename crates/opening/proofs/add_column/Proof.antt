@@ -8,10 +8,6 @@ use borrow.Author.Needs.{needs}
 use Rattle.opening.proofs.Stretches.{both-added}
 use Rattle.opening.proofs.add_column.Statement.{statement}
 use Rattle.opening.proofs.add_column.Tie as tie
-use Rattle.opening.proofs.add_column.Reads as reads
-use Rattle.opening.proofs.add_column.Lts as lts
-use Rattle.chacha20.proofs.expand.Reads as expand-reads
-use Rattle.xor.proofs.xor_into.Reads as xor-into-reads
 
 expand-requires : tie.Need-expand-requires
 expand-requires c κs = search needs

@@ -15,12 +15,6 @@ use Rattle.opening.proofs.Bodies.{body-long, key-board-accepted, body-w
 use borrow.Author.Needs.{needs}
 use Rattle.opening.proofs.body_of.Statement.{statement}
 use Rattle.opening.proofs.body_of.Tie as tie
-use Rattle.opening.proofs.body_of.Reads as reads
-use Rattle.opening.proofs.body_of.Lts as lts
-use Rattle.grid.proofs.board.Board.columns.Reads as columns-reads
-use Rattle.grid.proofs.board.Board.grid_rows.Reads as grid-rows-reads
-use Rattle.grid.proofs.board.Board.row_length.Reads as row-length-reads
-use Rattle.keys.proofs.grid_row.stride.Reads as stride-reads
 
 -- what is known of the key where the function begins: its bytes are bytes, and its board is accepted
 good : (c : tie.After-shared-slice-known) → bytes-good (now (c .before .args .key)) ≡ true

@@ -19,16 +19,6 @@ use Rattle.opening.specs.Shares.{shares, shares-from}
 use Rattle.opening.proofs.Columns.{part-long, part-whole, products, word-fits, seed-fits, seed-whole, word-is, row-is, count-start, shares-start, shares-end, seed-held, count-marked, count-unmarked, marked-turn, unmarked-turn}
 use Rattle.opening.proofs.open_part.Statement.{statement}
 use Rattle.opening.proofs.open_part.Tie as tie
-use Rattle.opening.proofs.open_part.Reads as reads
-use Rattle.opening.proofs.open_part.Lts as lts
-use Rattle.grid.proofs.board.Board.columns.Reads as columns-reads
-use Rattle.grid.proofs.board.Board.grid_rows.Reads as grid-rows-reads
-use Rattle.keys.proofs.grid_row.mark.Reads as mark-reads
-use Rattle.keys.proofs.grid_row.mark_bytes.Reads as mark-bytes-reads
-use Rattle.keys.proofs.grid_row.seed_after.Reads as seed-after-reads
-use Rattle.keys.proofs.grid_row.stride.Reads as stride-reads
-use Rattle.opening.proofs.add_column.Reads as add-column-reads
-use Rattle.opening.proofs.clear.Reads as clear-reads
 
 abbrev Inv-loop : tie.InvT-loop
 Inv-loop part board grid-row from row₀ out₀ columns words row-bytes held₀ column₀ row out held column =
@@ -116,7 +106,7 @@ mark-bytes-requires : tie.Need-mark-bytes-requires Inv-loop μ-loop
 mark-bytes-requires c κs = entry (c .before .before .before .before) .pre .0
 
 seed-after-requires : tie.Need-seed-after-requires Inv-loop μ-loop
-seed-after-requires c κs = seed-room c
+seed-after-requires c κs = omega (arith, seed-room c)
 
 sub-add-column : tie.Need-sub-add-column Inv-loop μ-loop
 sub-add-column c = omega arith

@@ -17,15 +17,9 @@ use Rattle.grid.proofs.Facts.{Board-in, board-in}
 use Rattle.keys.specs.Keys.{stride}
 use Rattle.keys.proofs.Accepted.{Body-in}
 use Rattle.opening.proofs.Columns.{part-long, part-whole}
-use Rattle.opening.proofs.GridRows.{row-in-table, part-is, part-begins, part-length, part-marks, count-is, Written, nothing-written, row-written, all-written}
+use Rattle.opening.proofs.GridRows.{row-in-table, part-begins, part-length, part-marks, count-is, Written, nothing-written, row-written, all-written}
 use Rattle.opening.proofs.open_rows.Statement.{statement}
 use Rattle.opening.proofs.open_rows.Tie as tie
-use Rattle.opening.proofs.open_rows.Reads as reads
-use Rattle.opening.proofs.open_rows.Lts as lts
-use Rattle.grid.proofs.board.Board.grid_rows.Reads as grid-rows-reads
-use Rattle.keys.proofs.grid_row.stride.Reads as stride-reads
-use Rattle.opening.proofs.least.Reads as least-reads
-use Rattle.opening.proofs.open_part.Reads as open-part-reads
 
 abbrev Inv-loop : tie.InvT-loop
 Inv-loop body board row₀ out₀ grid-rows row-bytes grid-row₀ row out grid-row =
@@ -58,30 +52,18 @@ body-known c =
 inside : (c : tie.In-loop Inv-loop μ-loop) → c .before .loop .grid-row < grid-rows (board-of (entry (c .before .before) .args .board))
 inside c = omega (arith, c .loop-test .taken, c .before .before .grid-rows .ensures)
 
-start-is : (c : tie.After-stride Inv-loop μ-loop) →
-    c .before .before .loop .grid-row * c .stride .result ≡ c .before .before .loop .grid-row * stride (board-of (entry (c .before .before .before) .args .board))
-start-is c = ap (λ (n : ℕ). c .before .before .loop .grid-row * n) (c .stride .ensures)
+at-is : (c : tie.In-loop Inv-loop μ-loop) → let s = entry (c .before .before) in
+    c .before .loop .grid-row * length (now (s .args .row)) ≡ c .before .loop .grid-row * row-long (board-of (s .args .board))
+at-is c = ap (λ (n : ℕ). c .before .loop .grid-row * n) (entry (c .before .before) .pre .3)
 
-at-is : (c : tie.After-stride Inv-loop μ-loop) → let s = entry (c .before .before .before) in
-    c .before .before .loop .grid-row * length (now (s .args .row)) ≡ c .before .before .loop .grid-row * row-long (board-of (s .args .board))
-at-is c = ap (λ (n : ℕ). c .before .before .loop .grid-row * n) (entry (c .before .before .before) .pre .3)
-
-at-within : (c : tie.After-stride Inv-loop μ-loop) → let s = entry (c .before .before .before) in
-    c .before .before .loop .grid-row * length (now (s .args .row)) ≤ length (c .before .before .loop .out)
+at-within : (c : tie.In-loop Inv-loop μ-loop) → c .before .loop .grid-row * length (now (entry (c .before .before) .args .row)) ≤ length (c .before .loop .out)
 at-within c =
-    let l = c .before .before .loop in
-    let s = entry (c .before .before .before) in
-    omega (arith, at-is c, row-in-table (board-of (s .args .board)) (board-known s) (l .grid-row) (inside (c .before)), l .inv .2, out-long s)
+    let l = c .before .loop in
+    let s = entry (c .before .before) in
+    omega (arith, at-is c, row-in-table (board-of (s .args .board)) (board-known s) (l .grid-row) (inside c), l .inv .2, out-long s)
 
-start-within : (c : tie.After-stride Inv-loop μ-loop) → let s = entry (c .before .before .before) in
-    c .before .before .loop .grid-row * c .stride .result ≤ length (now (s .args .body))
-start-within c =
-    let m = c .before .before .before in
-    let s = entry m in
-    part-begins (board-of (s .args .board)) (now (s .args .body)) (c .before .before .loop .grid-row) _ (start-is c) (body-known m) (inside (c .before))
-
-end-within : (c : tie.After-least Inv-loop μ-loop) → let s = entry (c .before .before .before .before) in
-    c .before .before .before .loop .grid-row * length (now (s .args .row)) + c .least .result ≤ length (c .before .before .before .loop .out)
+end-within : (c : tie.After-least Inv-loop μ-loop) → let s = entry (c .before .before .before) in
+    c .before .before .loop .grid-row * length (now (s .args .row)) + c .least .result ≤ length (c .before .before .loop .out)
 end-within c = omega (arith, c .least .ensures, at-within (c .before))
 
 grid-rows-requires : tie.Need-grid-rows-requires Inv-loop μ-loop
@@ -89,12 +71,6 @@ grid-rows-requires c κs = c .before .before .before .pre .0
 
 loop-holds : tie.Need-loop-holds Inv-loop μ-loop
 loop-holds c = (omega arith, refl, refl, nothing-written _ _ _ _)
-
-stride-requires : tie.Need-stride-requires Inv-loop μ-loop
-stride-requires c κs = entry (c .before .before) .pre .0
-
-mul-start : tie.Need-mul-start Inv-loop μ-loop
-mul-start c = omega (arith, start-within c)
 
 mul-at : tie.Need-mul-at Inv-loop μ-loop
 mul-at c = omega (arith, at-within c)
@@ -108,37 +84,35 @@ least-requires c κs = search needs
 add-end : tie.Need-add-end Inv-loop μ-loop
 add-end c = omega (arith, end-within c)
 
+row-part-requires : tie.Need-row-part-requires Inv-loop μ-loop
+row-part-requires c κs =
+    let m = c .before .before .before in
+    let s = entry m in
+    (s .pre .0, part-begins (board-of (s .args .board)) (now (s .args .body)) (body-known m) _ (omega (arith, inside (c .before))))
+
 sub-open-part : tie.Need-sub-open-part Inv-loop μ-loop
-sub-open-part c = start-within (c .before)
+sub-open-part c = omega arith
 
 part-open-part-start : tie.Need-part-open-part-start Inv-loop μ-loop
-part-open-part-start c = start-within (c .before)
+part-open-part-start c = omega arith
 
 part-open-part-end : tie.Need-part-open-part-end Inv-loop μ-loop
-part-open-part-end c = search needs
-
-sub-open-part-2 : tie.Need-sub-open-part-2 Inv-loop μ-loop
-sub-open-part-2 c = omega arith
-
-part-open-part-start-2 : tie.Need-part-open-part-start-2 Inv-loop μ-loop
-part-open-part-start-2 c = omega arith
-
-part-open-part-end-2 : tie.Need-part-open-part-end-2 Inv-loop μ-loop
-part-open-part-end-2 c = end-within (c .before .before)
+part-open-part-end c = end-within (c .before .before)
 
 open-part-requires : tie.Need-open-part-requires Inv-loop μ-loop
 open-part-requires c κs =
-    let n = c .before .before .before in
-    let t = n .before in
-    let l = t .before .before .loop in
-    let m = t .before .before .before in
+    let p = c .before .before in
+    let n = p .before in
+    let l = n .before .before .loop in
+    let m = n .before .before .before in
     let s = entry m in
     let b = board-of (s .args .board) in
+    let bs = now (s .args .body) in
     let room = part-whole _ (n .least .result) (l .out) (end-within n) in (
       s .pre .0,
-      inside (t .before),
-      part-length b _ (l .grid-row) _ (start-is t) (body-known m) (inside (t .before)),
-      part-marks b _ (l .grid-row) _ (start-is t) (body-known m) (inside (t .before)),
+      omega (arith, inside (n .before)),
+      part-length b bs (body-known m) _ (omega (arith, inside (n .before))) _ (p .row-part .ensures),
+      part-marks b bs (body-known m) _ (omega (arith, inside (n .before))) _ (p .row-part .ensures),
       l .inv .1 ∙ s .pre .3,
       omega (arith, room, n .least .ensures, s .pre .3),
     )
@@ -152,10 +126,10 @@ loop-less c = omega arith
 loop-again : tie.Need-loop-again Inv-loop μ-loop
 loop-again c =
     let done = c .before .before .before .before in
-    let n = done .before .before .before .before in
-    let t = n .before in
-    let l = t .before .before .loop in
-    let m = t .before .before .before in
+    let p = done .before .before .before in
+    let n = p .before in
+    let l = n .before .before .loop in
+    let m = n .before .before .before in
     let s = entry m in
     let b = board-of (s .args .board) in
     let at = l .grid-row * length (now (s .args .row)) in
@@ -167,9 +141,9 @@ loop-again c =
       omega arith,
       kept .0 ∙ l .inv .1,
       same-len-mid at (at + size - at) (l .out) new (kept .1 .0) ∙ l .inv .2,
-      row-written b (expand (row-long b)) (now (s .args .body)) (board-known s) (body-known m) (l .grid-row) (inside (t .before)) (now (s .args .out)) (l .out) _ new at (at + size - at) _
-          (at-is t) (count ∙ count-is b (board-known s) (l .grid-row) (inside (t .before)) _ _ size (s .pre .3) (l .inv .2 ∙ out-long s) (n .least .ensures)) (l .inv .3)
-          (part-is b (now (s .args .body)) (l .grid-row) _ (start-is t)) (room ∙ sym count) (done .open-part .ensures) (kept .1 .0),
+      row-written b (expand (row-long b)) (now (s .args .body)) (board-known s) (body-known m) (l .grid-row) (inside (n .before)) (now (s .args .out)) (l .out) _ new at (at + size - at) _
+          (at-is (n .before)) (count ∙ count-is b (board-known s) (l .grid-row) (inside (n .before)) _ _ size (s .pre .3) (l .inv .2 ∙ out-long s) (n .least .ensures)) (l .inv .3)
+          (p .row-part .ensures) (room ∙ sym count) (done .open-part .ensures) (kept .1 .0),
     )
 
 same-length : tie.Need-same-length Inv-loop μ-loop
@@ -195,18 +169,14 @@ open-rows-spec =
     μ-loop
     grid-rows-requires
     loop-holds
-    stride-requires
-    mul-start
     mul-at
     sub-least
     least-requires
     add-end
+    row-part-requires
     sub-open-part
     part-open-part-start
     part-open-part-end
-    sub-open-part-2
-    part-open-part-start-2
-    part-open-part-end-2
     open-part-requires
     add-grid-row
     loop-less

@@ -11,19 +11,12 @@ use Rattle.grid.specs.Grid.{board, board-refusal, grid-rows, row-long}
 use Rattle.grid.specs.Code.{board-of}
 use Rattle.grid.proofs.Facts.{Board-in, grid-row-in}
 use Rattle.grid.proofs.Accepted.{row-most}
-use Rattle.keys.specs.Keys.{stride}
 use Rattle.keys.proofs.Accepted.{Body-in}
 use Rattle.opening.proofs.Bodies.{cell-within, prefix-long, put-in-front, key-board, key-board-accepted, key-body, square-is}
-use Rattle.opening.proofs.GridRows.{part-is, part-begins, part-length, part-marks}
+use Rattle.opening.proofs.GridRows.{part-begins, part-length, part-marks}
 use borrow.Author.Needs.{needs}
 use Rattle.opening.proofs.open_square.Statement.{statement}
 use Rattle.opening.proofs.open_square.Tie as tie
-use Rattle.opening.proofs.open_square.Reads as reads
-use Rattle.opening.proofs.open_square.Lts as lts
-use Rattle.grid.proofs.board.Board.row_length.Reads as row-length-reads
-use Rattle.keys.proofs.grid_row.stride.Reads as stride-reads
-use Rattle.opening.proofs.body_of.Reads as body-of-reads
-use Rattle.opening.proofs.open_part.Reads as open-part-reads
 
 -- the key's board is accepted
 board-known : (c : tie.Start) → Board-in (board-of (c .args .board))
@@ -57,18 +50,6 @@ body-known c =
     subst (λ (bs : List ℕ). Body-in (board-of (s .args .board)) bs) (sym (c .body-of .ensures))
     (key-body ks (board-of (s .args .board)) (s .pre .0) (s .pre .1) (good-by-entries ks (λ i within. known .shared-slice-known .given i .fits)))
 
-start-is : (c : tie.After-stride) → let s = c .before .before .before .before .before .before in
-    s .args .position / s .args .board .width * c .stride .result ≡ s .args .position / s .args .board .width * stride (board-of (s .args .board))
-start-is c =
-    let s = c .before .before .before .before .before .before in ap (λ (n : ℕ). s .args .position / s .args .board .width * n) (c .stride .ensures)
-
-start-within : (c : tie.After-stride) → let s = c .before .before .before .before .before .before in
-    s .args .position / s .args .board .width * c .stride .result ≤ length (now (c .before .before .before .body-of .result))
-start-within c =
-    let h = c .before .before .before in
-    let s = h .before .before .before in
-    part-begins (board-of (s .args .board)) (now (h .body-of .result)) (s .args .position / s .args .board .width) _ (start-is c) (body-known h) (inside s)
-
 body-of-requires : tie.Need-body-of-requires
 body-of-requires c κs =
     let s = c .before .before in (s .pre .0, s .pre .1)
@@ -83,62 +64,52 @@ cast-grid-row : tie.Need-cast-grid-row
 cast-grid-row c =
     let s = c .before .before .before .before .before in omega (arith, inside s, board-known s .rows-most)
 
-stride-requires : tie.Need-stride-requires
-stride-requires c κs = accepted (c .before .before .before .before .before)
-
-mul-start : tie.Need-mul-start
-mul-start c = omega (arith, start-within c)
-
 rem-from : tie.Need-rem-from
-rem-from c = width-least (c .before .before .before .before .before .before .before)
+rem-from c = width-least (c .before .before .before .before .before .before)
 
 mul-from : tie.Need-mul-from
 mul-from c =
-    let s = c .before .before .before .before .before .before .before .before in omega (arith, cell-room s, row-most _ (accepted s))
+    let s = c .before .before .before .before .before .before .before in omega (arith, cell-room s, row-most _ (accepted s))
 
 cast-from : tie.Need-cast-from
 cast-from c =
-    let s = c .before .before .before .before .before .before .before .before in omega (arith, cell-room s, row-most _ (accepted s))
+    let s = c .before .before .before .before .before .before .before in omega (arith, cell-room s, row-most _ (accepted s))
 
 cast-count : tie.Need-cast-count
 cast-count c =
-    let s = c .before .before .before .before .before .before .before .before .before in omega (arith, cell-room s, row-most _ (accepted s))
+    let s = c .before .before .before .before .before .before .before .before in omega (arith, cell-room s, row-most _ (accepted s))
 
-sub-open-part : tie.Need-sub-open-part
-sub-open-part c = start-within (c .before .before .before)
-
-part-open-part-start : tie.Need-part-open-part-start
-part-open-part-start c = start-within (c .before .before .before)
-
-part-open-part-end : tie.Need-part-open-part-end
-part-open-part-end c = search needs
+row-part-requires : tie.Need-row-part-requires
+row-part-requires c κs =
+    let h = c .before .before .before .before .before in
+    let s = h .before .before .before in
+    (accepted s, part-begins (board-of (s .args .board)) (now (h .body-of .result)) (body-known h) _ (inside s))
 
 array-borrow-prefix-scratch : tie.Need-array-borrow-prefix-scratch
-array-borrow-prefix-scratch c = row-within (c .before .before .before .before .before .before)
+array-borrow-prefix-scratch c = row-within (c .before .before .before .before .before)
 
 slice-aggregate-open-part : tie.Need-slice-aggregate-open-part
-slice-aggregate-open-part c = prefix-long (c .before .before .before .before .before .before .before .row-length .result) _ (row-within (c .before .before .before .before .before .before .before))
+slice-aggregate-open-part c = prefix-long (c .before .before .before .before .before .before .row-length .result) _ (row-within (c .before .before .before .before .before .before))
 
 slice-relend-prefix-open-part : tie.Need-slice-relend-prefix-open-part
-slice-relend-prefix-open-part c = c .before .before .before .before .before .before .before .before .before .before .before .pre .3
+slice-relend-prefix-open-part c = c .before .before .before .before .before .before .before .before .before .before .pre .3
 
 slice-aggregate-open-part-2 : tie.Need-slice-aggregate-open-part-2
 slice-aggregate-open-part-2 c =
-    let s = c .before .before .before .before .before .before .before .before .before .before .before .before in prefix-long _ (now (s .args .out)) (s .pre .3)
+    let s = c .before .before .before .before .before .before .before .before .before .before .before in prefix-long _ (now (s .args .out)) (s .pre .3)
 
 open-part-requires : tie.Need-open-part-requires
 open-part-requires c κs =
-    let t = c .before .before .before .before .before .before in
-    let r = t .before .before in
+    let p = c .before .before in
+    let r = p .before .before .before .before .before in
     let h = r .before in
     let s = h .before .before .before in
     let b = board-of (s .args .board) in
-    let g = s .args .position / s .args .board .width in
     let bs = now (h .body-of .result) in (
       accepted s,
       inside s,
-      part-length b bs g _ (start-is t) (body-known h) (inside s),
-      part-marks b bs g _ (start-is t) (body-known h) (inside s),
+      part-length b bs (body-known h) _ (inside s) _ (p .row-part .ensures),
+      part-marks b bs (body-known h) _ (inside s) _ (p .row-part .ensures),
       sym (prefix-long (r .row-length .result) _ (row-within r)) ∙ r .row-length .ensures,
       omega (arith, prefix-long _ (now (s .args .out)) (s .pre .3), cell-room s),
     )
@@ -150,14 +121,12 @@ returns : tie.Need-returns
 unfolding board
 returns c =
     let done = c .before .before .before in
-    let t = done .before .before .before .before .before .before .before in
-    let h = t .before .before .before in
+    let p = done .before .before .before in
+    let h = p .before .before .before .before .before .before in
     let s = h .before .before .before in
-    let b = board-of (s .args .board) in
-    let bs = now (h .body-of .result) in
     put-in-front (done .open-part .last .1 .1 .1 .1 .1 .0) _ (now (s .args .out)) _
     (done .open-part .ensures
-    ∙ square-is (now (s .args .key)) b (s .pre .0) (s .pre .1) _ bs _ (s .args .position) _ (h .body-of .ensures) (part-is b bs (s .args .position / s .args .board .width) _ (start-is t))
+    ∙ square-is (now (s .args .key)) (board-of (s .args .board)) (s .pre .0) (s .pre .1) _ (now (h .body-of .result)) _ (s .args .position) _ (h .body-of .ensures) (p .row-part .ensures)
     (sym (prefix-long _ (now (s .args .out)) (s .pre .3))))
     (s .pre .3) (done .open-part .kept .1 .1 .1 .1 .1 .0)
 
@@ -169,15 +138,11 @@ open-square-spec =
     row-length-requires
     div-grid-row
     cast-grid-row
-    stride-requires
-    mul-start
     rem-from
     mul-from
     cast-from
     cast-count
-    sub-open-part
-    part-open-part-start
-    part-open-part-end
+    row-part-requires
     array-borrow-prefix-scratch
     slice-aggregate-open-part
     slice-relend-prefix-open-part

@@ -17,11 +17,6 @@ use Rattle.opening.proofs.Bodies.{table-most, prefix-long, put-in-front
 use borrow.Author.Needs.{needs}
 use Rattle.opening.proofs.open_table.Statement.{statement}
 use Rattle.opening.proofs.open_table.Tie as tie
-use Rattle.opening.proofs.open_table.Reads as reads
-use Rattle.opening.proofs.open_table.Lts as lts
-use Rattle.grid.proofs.board.Board.row_length.Reads as row-length-reads
-use Rattle.opening.proofs.body_of.Reads as body-of-reads
-use Rattle.opening.proofs.open_rows.Reads as open-rows-reads
 
 accepted : (c : tie.Start) → board-refusal (board-of (c .args .board)) ≡ 0
 accepted c = key-board-accepted (now (c .args .key)) (board-of (c .args .board)) (c .pre .0) (c .pre .1)
