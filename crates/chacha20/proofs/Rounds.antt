@@ -1,8 +1,8 @@
 -- The rounds of the block function as the code takes them, one step after another: four half steps are a quarter round, eight quarter
 -- rounds by the table are a double round, and a turn of the loop leaves one double round less. Assumes nothing.
-use mathlib.Core.Path.{_≡_, refl, sym, ap, _∙_, subst}
+use mathlib.Core.Path.{_≡_}
 use mathlib.Core.List.{List, [], _∷_}
-use Prim.Native.Nat.{ℕ, zero, suc, _+_, _-_, _<_, _≤_}
+use Prim.Native.Nat.{ℕ, suc, _+_, _-_, _<_, _≤_}
 use native.Mathlib.Omega.{arith}
 use Rattle.chacha20.specs.Expand.{at, mixed, quarter, double-round, rounds, sums, low-bytes}
 use Rattle.chacha20.specs.Rfc8439.{quarter-at, opening-state, chacha20-block}

@@ -4,11 +4,11 @@
 use mathlib.Core.Path.{_≡_, refl, sym, ap, _∙_, subst}
 use mathlib.Core.Bool.{true}
 use mathlib.Core.List.{List, [], _∷_, _++_, append-assoc, append-nil}
-use Prim.Native.Nat.{ℕ, zero, suc, _+_, _*_, _-_, _/_, _%_, _^_, _<_, _≤_}
+use Prim.Native.Nat.{ℕ, zero, suc, _+_, _*_, _-_, _/_, _%_, _<_, _≤_}
 use native.Mathlib.Omega.{arith}
 use native.Mathlib.Nat.{add-zero}
 use lib.ListN.{length, take, drop, length-set, drop-of-length-le}
-use lib.Seq.{length-take-le, take-take, take-append-add, take-append-le, drop-at, drop-drop}
+use lib.Seq.{take-take, take-append-add, take-append-le, drop-at, drop-drop}
 use borrow.Rule.Slice.PartMut.{midOf, putMid, mid-len, same-len-mid}
 use Rattle.xor.specs.Xor.{zeros, bytes-good}
 use Rattle.xor.proofs.Laws.{Word, word-append, word-take, good-cons}
@@ -150,6 +150,17 @@ part-of-key-stream s e c key nonce h =
     let same : drop (64 * first) (key-stream e c key nonce) ≡ key-stream (e - 64 * first) (c + first) key nonce = subst (λ (n : ℕ). drop (64 * first) (key-stream n c key nonce) ≡ key-stream (e - 64 * first) (c + first) key nonce) all later in
     subst (λ (n : ℕ). drop n (key-stream e c key nonce) ≡ drop (s % 64) (key-stream (e - 64 * first) (c + first) key nonce)) start
     (sym (drop-drop (s % 64) (64 * first) (key-stream e c key nonce)) ∙ ap (λ (l : List ℕ). drop (s % 64) l) same)
+
+-- the same of a row: document 03's `expand`
+pub take-expand : (m n : ℕ) (seed : List ℕ) → m ≤ n → take m (expand n seed) ≡ expand m seed
+take-expand m n seed h = rw (expand-is n seed, expand-is m seed) (take-key-stream m n 0 seed (zeros 12) h)
+
+pub part-of-expand : (s e : ℕ) (seed : List ℕ) → s ≤ e → drop s (expand e seed) ≡ drop (s % 64) (key-stream (e - 64 * (s / 64)) (s / 64) seed (zeros 12))
+part-of-expand s e seed h =
+    let first : 0 + s / 64 ≡ s / 64 = omega arith in
+    rw (expand-is e seed)
+    (subst (λ (c : ℕ). drop s (key-stream e 0 seed (zeros 12)) ≡ drop (s % 64) (key-stream (e - 64 * (s / 64)) c seed (zeros 12))) first
+    (part-of-key-stream s e 0 seed (zeros 12) h))
 
 -- WRITING the key stream block by block
 

@@ -1,7 +1,7 @@
 -- Words of 32 bits as the machine has them: rolled to the left, read from four bytes, written as four bytes. Assumes nothing.
 use mathlib.Core.Path.{_≡_, refl, sym, ap, _∙_, subst}
-use mathlib.Core.List.{List, [], _∷_, _++_}
-use Prim.Native.Nat.{ℕ, zero, suc, _+_, _*_, _-_, _/_, _%_, _^_, _<_, _≤_}
+use mathlib.Core.List.{List, [], _∷_}
+use Prim.Native.Nat.{ℕ, _+_, _*_, _-_, _/_, _%_, _^_, _<_}
 use native.Mathlib.Omega.{arith}
 use native.Mathlib.Nat.{add-zero, add-comm}
 use native.Mathlib.Numerals.{add-one}
@@ -10,7 +10,7 @@ use lib.ListN.{length, getD, set}
 use lib.Pow.{pow-pos, mod-pow-add, shl-shr, shr-lt, low}
 use Rattle.xor.specs.Xor.{xor-from}
 use Rattle.xor.proofs.Laws.{xor-is, xor-from-lt}
-use Rattle.chacha20.specs.Expand.{full, turned, xor-word, at, word-at, low-bytes}
+use Rattle.chacha20.specs.Expand.{turned, xor-word, at, word-at, low-bytes}
 
 -- nothing of a multiple of 2^n stands below 2^n
 shifted-low : (v n : ℕ) → v * 2 ^ n % 2 ^ n ≡ 0
@@ -39,11 +39,13 @@ pub word-of-four : (bs : List ℕ) (i : ℕ) → word-at (getD bs i 0 ∷ getD b
 unfolding word-at at
 word-of-four bs i = rw (add-one i, add-comm i 2, add-comm i 3)
 
--- a list of four places is what is written there
-pub four-written : (xs : List ℕ) (a b c d : ℕ) → length xs ≡ 4 → set (set (set (set xs 0 a) 1 b) 2 c) 3 d ≡ a ∷ b ∷ c ∷ d ∷ []
-four-written [] a b c d h = let none : ⊥ = omega arith in absurd none
-four-written (v ∷ []) a b c d h = let none : ⊥ = omega arith in absurd none
-four-written (v ∷ w ∷ []) a b c d h = let none : ⊥ = omega arith in absurd none
-four-written (v ∷ w ∷ x ∷ []) a b c d h = let none : ⊥ = omega arith in absurd none
-four-written (v ∷ w ∷ x ∷ y ∷ []) a b c d h = refl
-four-written (v ∷ w ∷ x ∷ y ∷ z ∷ zs) a b c d h = let none : ⊥ = omega arith in absurd none
+-- four places hold a word's bytes once they are written, the lowest first
+pub word-written : (xs : List ℕ) (v : ℕ) → length xs ≡ 4 →
+    set (set (set (set xs 0 (v % 256)) 1 (v / 256 % 256)) 2 (v / 65536 % 256)) 3 (v / 16777216) ≡ low-bytes (v ∷ [])
+unfolding low-bytes
+word-written [] v h = let none : ⊥ = omega arith in absurd none
+word-written (a ∷ []) v h = let none : ⊥ = omega arith in absurd none
+word-written (a ∷ b ∷ []) v h = let none : ⊥ = omega arith in absurd none
+word-written (a ∷ b ∷ c ∷ []) v h = let none : ⊥ = omega arith in absurd none
+word-written (a ∷ b ∷ c ∷ d ∷ []) v h = refl
+word-written (a ∷ b ∷ c ∷ d ∷ e ∷ es) v h = let none : ⊥ = omega arith in absurd none

@@ -4,17 +4,18 @@
 use mathlib.Core.Path.{_≡_, refl, sym, ap, _∙_, subst}
 use mathlib.Core.Bool.{Bool, true, false, not, cond, true≢false}
 use mathlib.Core.List.{List, [], _∷_}
-use Prim.Native.Nat.{ℕ, zero, suc, _+_, _*_, _-_, _/_, _%_, _^_, _≤_, _<_}
+use Prim.Native.Nat.{ℕ, zero, suc, _+_, _*_, _-_, _/_, _^_, _≤_, _<_}
 use native.Mathlib.Omega.{arith}
-use lib.Dec.{ltb, eqb}
+use lib.Dec.{eqb}
 use lib.ListN.{length, getD}
+use lib.Pow.{pow-pos}
 use borrow.Author.Tests.{eqb-true, eqb-false, not-true}
-use Rattle.grid.specs.Grid.{Board, columns, grid-rows, bit, Dealing, column, is-odd, array-good, dealing-good, other-marks, unheld-from}
-use Rattle.grid.specs.Arrays.{Accepted, Each-column-once, marked, Half-is-marked, Left-alone, One-row-unheld}
-use Rattle.grid.specs.Hiding.{mended}
+use Rattle.grid.specs.Grid.{Board, columns, grid-rows, bit, column, is-odd, other-marks, unheld-from}
+use Rattle.grid.specs.Arrays.{Accepted, Each-column-once, marked, Half-is-marked, Half-of-each-row, Left-alone, unheld-column, One-row-unheld}
+use Rattle.grid.specs.Moving.{mended}
 use Rattle.grid.proofs.Columns.{half-fixes, others-and-parity-fix, none-marked, some-marked, others-none, mended-low, mended-parity, mended-alone, without, without-low, bit-and-half-fix}
-use Rattle.grid.proofs.Facts.{Board-in, columns-pos, Array-in, array-in, Arrays-in, Facts, facts}
-use Rattle.grid.proofs.Pigeonhole.{count, Apart, pigeon, hits}
+use Rattle.grid.proofs.Facts.{Board-in, board-in, columns-twice, columns-half, array-in, array-of, array-at, array-long, Arrays-in, facts}
+use Rattle.grid.proofs.Pigeonhole.{count, count-both, count-first, count-same, Apart, pigeon, hits}
 
 -- ONE ARRAY, as a function of the place: J columns of p bits, of one parity, each once
 
@@ -51,31 +52,14 @@ present p J o col two a c h e =
     let place = hits J (λ j. col j / 2) halves (c / 2) (omega arith) in
     (place .0, place .1, half-fixes (col (place .0)) c (place .2) (a .parity (place .0) (place .1) ∙ sym e))
 
-twice-columns : (b : Board) → 1 ≤ b .p → 2 ^ b .p ≡ 2 * columns b
-unfolding columns
-twice-columns b h =
-    let e : suc (b .p - 1) ≡ b .p = omega arith in
-    subst (λ (k : ℕ). 2 ^ k ≡ 2 * 2 ^ (b .p - 1)) e (omega arith)
-
 pub each-column-once : Each-column-once
 unfolding Each-column-once
 each-column-once b o cs t c h e =
     let a = listed-array b o cs t in
-    let least = t .players-least in
-    let place = present (b .p) (columns b) o (λ j. getD cs j 0) (twice-columns b (omega arith)) a c h e in
+    let place = present (b .p) (columns b) o (λ j. getD cs j 0) (columns-twice b (board-in b (t .board))) a c h e in
     (place .0, place .1, place .2, λ k q f. a .once k (place .0) q (place .1) (f ∙ sym (place .2)))
 
 -- A PLAYER MARKS HALF OF THE COLUMNS
-
--- the selected places and the others are all
-count-both : (n : ℕ) (s : ℕ → Bool) → count n s + count n (λ j. not (s j)) ≡ n
-unfolding count
-count-both zero s = refl
-count-both (suc n) s = go (s n) (count-both n s)
-  where
-    go : (t : Bool) → count n s + count n (λ j. not (s j)) ≡ n → (cond t 1 0 + count n s) + (cond (not t) 1 0 + count n (λ j. not (s j))) ≡ suc n
-    go true ih = omega arith
-    go false ih = omega arith
 
 module _ (k J : ℕ) (half : J ≡ 2 * 2 ^ k) (o : Bool) (col : ℕ → ℕ) (a : Array (suc (suc k)) J o col) (i : ℕ) (h : i < suc (suc k)) (most : suc (suc k) ≤ 8) where
   -- of the columns that a player marks alike, or leaves alike, there are at most half
@@ -95,23 +79,15 @@ module _ (k J : ℕ) (half : J ≡ 2 * 2 ^ k) (o : Bool) (col : ℕ → ℕ) (a 
       let all = count-both J (λ j. bit (col j) i) in
       omega arith
 
-pub half-counted : (b : Board) (o : Bool) (col : ℕ → ℕ) → 2 ≤ b .p → b .p ≤ 8 → Array (b .p) (columns b) o col → (i : ℕ) → i < b .p
-    → count (columns b) (λ j. bit (col j) i) ≡ columns b / 2
-unfolding columns
-half-counted b o col least most a i h =
-    let k = b .p - 2 in
+pub half-counted :
+    (b : Board) → Board-in b → (o : Bool) (col : ℕ → ℕ) → Array (b .p) (columns b) o col → (i : ℕ) → i < b .p → count (columns b) (λ j. bit (col j) i) ≡ columns b / 2
+half-counted b f o col a i h =
     let e : b .p ≡ suc (suc (b .p - 2)) = omega arith in
-    let f : b .p - 1 ≡ suc (b .p - 2) = omega arith in
-    let half : columns b ≡ 2 * 2 ^ k = ap (λ (m : ℕ). 2 ^ m) f ∙ omega arith in
-    let r = half-of-them k (columns b) half o col (subst (λ (p : ℕ). Array p (columns b) o col) e a) i (omega arith) (omega arith) in
+    let half = columns-half b f in
+    let r = half-of-them (b .p - 2) (columns b) half o col (subst (λ (p : ℕ). Array p (columns b) o col) e a) i (omega arith) (omega arith) in
     omega arith
 
--- the count over a list, from its head
-count-first : (n : ℕ) (s : ℕ → Bool) → count (suc n) s ≡ cond (s 0) 1 0 + count n (λ j. s (suc j))
-unfolding count
-count-first zero s = refl
-count-first (suc n) s = let r = count-first n s in omega arith
-
+-- the columns that a player marks, counted by place
 marked-is : (i : ℕ) (cs : List ℕ) → marked i cs ≡ count (length cs) (λ j. bit (getD cs j 0) i)
 unfolding marked count
 marked-is i [] = refl
@@ -121,7 +97,16 @@ pub half-is-marked : Half-is-marked
 unfolding Half-is-marked
 half-is-marked b o cs t i h =
     marked-is i cs ∙ ap (λ (n : ℕ). count n (λ j. bit (getD cs j 0) i)) (t .long)
-    ∙ half-counted b o (λ j. getD cs j 0) (t .players-least) (t .players-most) (listed-array b o cs t) i h
+    ∙ half-counted b (board-in b (t .board)) o (λ j. getD cs j 0) (listed-array b o cs t) i h
+
+pub half-of-each-row : Half-of-each-row
+unfolding Half-of-each-row array-of
+half-of-each-row b d i g good h l =
+    let f = facts b d good in
+    let cs = array-of b (d .arrays) g in
+    marked-is i cs ∙ ap (λ (n : ℕ). count n (λ j. bit (getD cs j 0) i)) (array-long b (d .arrays) (f .arrays .long) g l)
+    ∙ count-same (columns b) (λ j. bit (getD cs j 0) i) (λ j. bit (column b (d .arrays) g j) i) (λ j q. ap (λ (c : ℕ). bit c i) (array-at b (d .arrays) g j q))
+    ∙ half-counted b (f .board) (eqb g (d .point / b .wide)) (λ j. column b (d .arrays) g j) (row-array b (d .point / b .wide) (d .arrays) (f .arrays) g l) i h
 
 -- ONE COLUMN IS LEFT ALONE
 
@@ -163,24 +148,22 @@ pub record Unheld (b : Board) (i : ℕ) (cs : List ℕ) (g place : ℕ) : Type 0
   pub alone : other-marks (column b cs g place) i ≡ 0
   pub only : (k : ℕ) → k < columns b → other-marks (column b cs g k) i ≡ 0 → k ≡ place
 
-pub one-unheld : (b : Board) (i odd-row : ℕ) (cs : List ℕ) → 2 ≤ b .p → b .p ≤ 8 → i < b .p → Arrays-in b odd-row cs → (g : ℕ) → g < grid-rows b
-    → Unheld b i cs g (unheld-from (columns b) 0 b i cs g)
-one-unheld b i r cs least most h t g l =
+pub one-unheld : (b : Board) → Board-in b → (i : ℕ) → i < b .p → (odd-row : ℕ) (cs : List ℕ) → Arrays-in b odd-row cs → (g : ℕ) → g < grid-rows b
+    → Unheld b i cs g (unheld-column b i cs g)
+one-unheld b f i h r cs t g l =
     let odd = eqb g r in
     let lone = mended odd 0 i in
-    let two = twice-columns b (omega arith) in
-    let some = columns-pos b in
-    let there = present (b .p) (columns b) odd (λ j. column b cs g j) two (row-array b r cs t g l) lone
-    (mended-low (b .p) odd 0 i h (omega arith)) (mended-parity odd 0 i (omega arith)) in
+    let there = present (b .p) (columns b) odd (λ j. column b cs g j) (columns-twice b f) (row-array b r cs t g l) lone
+    (mended-low (b .p) odd 0 i h (pow-pos (b .p))) (mended-parity odd 0 i (omega arith)) in
     let found = search-finds (columns b) 0 b i cs g (there .0) (omega arith) (let q = there .1 in omega arith)
     (rw (there .2) (mended-alone odd 0 i ∙ others-none i)) in
-    let u = unheld-from (columns b) 0 b i cs g in
+    let u = unheld-column b i cs g in
     let inside : u < columns b = (let q = found .0 in omega arith) in
     record {
       within = inside;
       alone = found .1;
       only = λ k q e. t .once g k u l q inside
-          (others-and-parity-fix (b .p) i (column b cs g k) (column b cs g u) most (t .below g k l q) (t .below g u l inside)
+          (others-and-parity-fix (b .p) i (column b cs g k) (column b cs g u) (omega arith) (t .below g k l q) (t .below g u l inside)
           (λ j m ne. none-marked (column b cs g k) i j e ne ∙ sym (none-marked (column b cs g u) i j (found .1) ne))
           (t .parity g k l q ∙ sym (t .parity g u l inside)));
     }
@@ -189,5 +172,5 @@ pub one-row-unheld : One-row-unheld
 unfolding One-row-unheld
 one-row-unheld b d i g good h l =
     let f = facts b d good in
-    let u = one-unheld b i (d .point / b .wide) (d .arrays) (f .board .players-least) (let m = f .board .players-most in omega arith) h (f .arrays) g l in
+    let u = one-unheld b (f .board) i h (d .point / b .wide) (d .arrays) (f .arrays) g l in
     (u .within, is-alone b i _ (u .alone), λ k q e. u .only k q (alone-is b i _ (f .arrays .below g k l q) e))

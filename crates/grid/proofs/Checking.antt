@@ -13,7 +13,7 @@ use lib.ListN.{length, getD, take, drop, length-drop, drop-of-length-le}
 use lib.Seq.{drop-cons, drop-drop, take-all}
 use borrow.Author.Tests.{eq-eqb, ne-eqb, lt-ltb, le-ltb}
 use Rattle.grid.specs.Grid.{Board, columns, grid-rows, ones, is-odd, same-parity, member, array-good, arrays-good}
-use Rattle.grid.proofs.Accepted.{passed, failed}
+use Rattle.grid.proofs.Refusing.{passed, failed}
 use Rattle.grid.proofs.Counting.{one-left}
 
 -- A COLUMN'S ONES

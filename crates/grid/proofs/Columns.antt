@@ -1,14 +1,15 @@
 -- One column of p marks: its bits and its parity. A column is fixed by its marks; by its parity and the marks of all players but one; and
 -- there is just one column with given marks of the others and a given parity, the mended column. Assumes nothing.
-use mathlib.Core.Path.{_≡_, refl, sym, ap, _∙_, subst}
+use mathlib.Core.Path.{_≡_, refl, sym, ap, _∙_}
 use mathlib.Core.Bool.{Bool, true, false, not, cond, true≢false, false≢true}
 use Prim.Native.Nat.{ℕ, zero, suc, _+_, _*_, _-_, _/_, _%_, _^_, _≤_, _<_}
 use native.Mathlib.Omega.{arith}
 use native.Mathlib.Nat.{div-one, pow-succ', div-div-eq-div-mul}
-use lib.Dec.{ltb, eqb}
-use borrow.Author.Tests.{ltb-true, ltb-false, eqb-true, eqb-false, eq-eqb, ne-eqb}
+use lib.Dec.{eqb}
+use borrow.Author.Tests.{eqb-true, eqb-false, eq-eqb, ne-eqb}
 use Rattle.grid.specs.Grid.{bit, ones, is-odd, same-parity, other-marks}
-use Rattle.grid.specs.Hiding.{turned, mended}
+use Rattle.grid.specs.Moving.{turned, mended}
+use Rattle.grid.proofs.Marks.{ones-beyond}
 
 -- THE BITS OF A NUMBER, from the lowest up
 
@@ -75,25 +76,11 @@ half-and-ones k a b h e =
 pub half-fixes : (a b : ℕ) → a / 2 ≡ b / 2 → is-odd a ≡ is-odd b → a ≡ b
 half-fixes a b h o = half-and-ones 7 a b h (odd-same a b o)
 
--- above a column's bits nothing is counted
-ones-none : (k : ℕ) → ones k 0 ≡ 0
-unfolding ones
-ones-none zero = refl
-ones-none (suc k) = let e = ones-none k in omega arith
-
-ones-enough : (k l v : ℕ) → k ≤ l → v < 2 ^ k → ones l v ≡ ones k v
-unfolding ones
-ones-enough zero l v h q =
-    let e : v ≡ 0 = omega arith in
-    rw e (ones-none l)
-ones-enough (suc k) zero v h q = let none : ⊥ = omega arith in absurd none
-ones-enough (suc k) (suc l) v h q = let e = ones-enough k l (v / 2) (omega arith) (omega arith) in omega arith
-
-pub odd-counts : (p a b : ℕ) → p ≤ 8 → a < 2 ^ p → b < 2 ^ p → is-odd a ≡ is-odd b → ones p a % 2 ≡ ones p b % 2
+odd-counts : (p a b : ℕ) → p ≤ 8 → a < 2 ^ p → b < 2 ^ p → is-odd a ≡ is-odd b → ones p a % 2 ≡ ones p b % 2
 odd-counts p a b h q r o =
     let e = odd-same a b o in
-    let f = ones-enough p 8 a h q in
-    let g = ones-enough p 8 b h r in
+    let f = ones-beyond p 8 a h q in
+    let g = ones-beyond p 8 b h r in
     omega arith
 
 -- the marks of all players but i, and the parity, fix a column

@@ -102,9 +102,15 @@ columns-half b f =
     let e : suc (b .p - 2) ≡ b .p - 1 = omega arith in
     subst (λ (k : ℕ). 2 ^ k ≡ 2 * 2 ^ (b .p - 2)) e (omega arith)
 
--- a column is a byte
-pub columns-most : (b : Board) → Board-in b → 2 ^ b .p ≤ 64
-columns-most b f = pow-mono (f .players-most)
+-- an array has 2 to 32 columns, and a column has at most six bits
+pub columns-least : (b : Board) → Board-in b → 2 ≤ columns b
+columns-least b f = omega (arith, columns-half b f, pow-pos (b .p - 2))
+
+pub column-most : (b : Board) → Board-in b → 2 ^ b .p ≤ 64
+column-most b f = pow-mono (f .players-most)
+
+pub columns-most : (b : Board) → Board-in b → columns b ≤ 32
+columns-most b f = omega (arith, columns-twice b f, column-most b f)
 
 -- each position has a grid row and a cell
 pub grid-row-in : (b : Board) → Board-in b → (a : ℕ) → a < b .n → a / b .wide < grid-rows b
@@ -141,6 +147,7 @@ neither : (s t : Bool) → s ≡ false → t ≡ false → (s || t) ≡ false
 neither true t p q = p
 neither false t p q = q
 
+-- the test of parities is that they are the same
 parity-is : (s o : Bool) → same-parity s o ≡ true → s ≡ o
 unfolding same-parity
 parity-is true o h = sym h
@@ -205,22 +212,25 @@ array-in b o (c ∷ cs) h =
     (absent c cs (not-true (member c cs) (and-left fresh (array-good b o cs) tail)))
     (array-in b o cs (and-right fresh (array-good b o cs) tail))
 
+-- and an array without its first column is one, in which that column does not stand
+array-tail : (b : Board) (o : Bool) (c : ℕ) (cs : List ℕ) → Array-in b o (c ∷ cs) → Array-in b o cs
+array-tail b o c cs t = record { below = λ j h. t .below (suc j) (omega arith); parity = λ j h. t .parity (suc j) (omega arith); once = once-of }
+  where
+    once-of : (j k : ℕ) → j < length cs → k < length cs → getD cs j 0 ≡ getD cs k 0 → j ≡ k
+    once-of j k h l e = omega (arith, t .once (suc j) (suc k) (omega arith) (omega arith) e)
+
+array-new : (b : Board) (o : Bool) (c : ℕ) (cs : List ℕ) → Array-in b o (c ∷ cs) → member c cs ≡ false
+array-new b o c cs t =
+    not-member c cs (λ j h e. let same : suc j ≡ 0 = t .once (suc j) 0 (omega arith) (omega arith) e in omega arith)
+
 pub array-accepted : (b : Board) (o : Bool) (cs : List ℕ) → Array-in b o cs → array-good b o cs ≡ true
 unfolding array-good
 array-accepted b o [] t = refl
 array-accepted b o (c ∷ cs) t =
-    let tail : Array-in b o cs =
-    record {
-      below = λ j h. t .below (suc j) (omega arith);
-      parity = λ j h. t .parity (suc j) (omega arith);
-      once = λ j k h l e. let s : suc j ≡ suc k = t .once (suc j) (suc k) (omega arith) (omega arith) e in omega arith;
-    } in
-    let new : member c cs ≡ false =
-    not-member c cs (λ j h e. let s : suc j ≡ 0 = t .once (suc j) 0 (omega arith) (omega arith) e in omega arith) in
     and-both (ltb c (2 ^ b .p) && same-parity (is-odd c) o) (not (member c cs) && array-good b o cs)
     (and-both (ltb c (2 ^ b .p)) (same-parity (is-odd c) o) (lt-ltb c (2 ^ b .p) (t .below 0 (omega arith)))
     (parity-fits (is-odd c) o (t .parity 0 (omega arith))))
-    (and-both (not (member c cs)) (array-good b o cs) (rw new) (array-accepted b o cs tail))
+    (and-both (not (member c cs)) (array-good b o cs) (rw (array-new b o c cs t)) (array-accepted b o cs (array-tail b o c cs t)))
 
 -- the array of grid row g, as a part of all arrays
 unfoldable pub array-of : Board → List ℕ → (g : ℕ) → List ℕ
@@ -381,8 +391,8 @@ pub record Facts (b : Board) (d : Dealing) : Type 0 where
 sized : (size asked : ℕ) (test : Bool) → (eqb size asked && test) ≡ true → (size ≡ asked) × (test ≡ true)
 sized k n t h = (eqb-true k n (and-left (eqb k n) t h), and-right (eqb k n) t h)
 
-size : (size asked : ℕ) (test : Bool) → size ≡ asked → test ≡ true → (eqb size asked && test) ≡ true
-size k n t e h = and-both (eqb k n) t (eq-eqb k n e) h
+sized-test : (size asked : ℕ) (test : Bool) → size ≡ asked → test ≡ true → (eqb size asked && test) ≡ true
+sized-test k n t e h = and-both (eqb k n) t (eq-eqb k n e) h
 
 -- four tests in the grouping of the dealing's test
 four : (s t u v : Bool) → (s && (t && (u && v))) ≡ true → (s ≡ true) × (t ≡ true) × (u ≡ true) × (v ≡ true)
@@ -396,9 +406,10 @@ unfolding dealing-good
 facts b d h =
     let place = eqb (board-refusal b) 0 && ltb (d .point) (b .n) in
     let valued = eqb (length (d .value)) (b .w) && bytes-good (d .value) in
-    let tests = four (place && valued) (eqb (length (d .arrays)) (grid-rows b * columns b) && arrays-good (grid-rows b) 0 b (d .point) (d .arrays))
-    (eqb (length (d .rows)) (grid-rows b * columns b) && each-long (row-long b) (d .rows))
-    (eqb (length (d .words)) (columns b - 1) && each-long (row-long b) (d .words)) h in
+    let arrayed = eqb (length (d .arrays)) (grid-rows b * columns b) && arrays-good (grid-rows b) 0 b (d .point) (d .arrays) in
+    let rowed = eqb (length (d .rows)) (grid-rows b * columns b) && each-long (row-long b) (d .rows) in
+    let worded = eqb (length (d .words)) (columns b - 1) && each-long (row-long b) (d .words) in
+    let tests = four (place && valued) arrayed rowed worded h in
     let at = sized (board-refusal b) 0 (ltb (d .point) (b .n)) (and-left place valued (tests .0)) in
     let value = sized (length (d .value)) (b .w) (bytes-good (d .value)) (and-right place valued (tests .0)) in
     let arrays = sized (length (d .arrays)) (grid-rows b * columns b) (arrays-good (grid-rows b) 0 b (d .point) (d .arrays)) (tests .1) in
@@ -423,11 +434,11 @@ dealing-accepted b d f =
     let worded = eqb (length (d .words)) (columns b - 1) && each-long (row-long b) (d .words) in
     and-both (place && valued) (arrayed && (rowed && worded))
     (and-both place valued
-    (size (board-refusal b) 0 (ltb (d .point) (b .n)) (board-accepted b (f .board)) (lt-ltb (d .point) (b .n) (f .point-in)))
-    (size (length (d .value)) (b .w) (bytes-good (d .value)) (f .value .long) (f .value .good)))
+    (sized-test (board-refusal b) 0 (ltb (d .point) (b .n)) (board-accepted b (f .board)) (lt-ltb (d .point) (b .n) (f .point-in)))
+    (sized-test (length (d .value)) (b .w) (bytes-good (d .value)) (f .value .long) (f .value .good)))
     (and-both arrayed (rowed && worded)
-    (size (length (d .arrays)) (grid-rows b * columns b) (arrays-good (grid-rows b) 0 b (d .point) (d .arrays)) (f .arrays .long)
+    (sized-test (length (d .arrays)) (grid-rows b * columns b) (arrays-good (grid-rows b) 0 b (d .point) (d .arrays)) (f .arrays .long)
     (arrays-accepted b (d .point) (d .arrays) (f .arrays)))
     (and-both rowed worded
-    (size (length (d .rows)) (grid-rows b * columns b) (each-long (row-long b) (d .rows)) (f .rows .long) (rows-accepted b (d .rows) (f .rows)))
-    (size (length (d .words)) (columns b - 1) (each-long (row-long b) (d .words)) (f .words .long) (words-accepted b (d .words) (f .words)))))
+    (sized-test (length (d .rows)) (grid-rows b * columns b) (each-long (row-long b) (d .rows)) (f .rows .long) (rows-accepted b (d .rows) (f .rows)))
+    (sized-test (length (d .words)) (columns b - 1) (each-long (row-long b) (d .words)) (f .words .long) (words-accepted b (d .words) (f .words)))))

@@ -93,16 +93,19 @@ module _ (b : Board) (special : ℕ) (rs ws : List (List ℕ)) (made : List ℕ)
       (word-xors (xors made (words-sum b ws)) (rows-sum b rs special) (word-xors made (words-sum b ws) m (words-sum-word b ws l))
       (rows-sum-word b rs r special inside))
 
+  -- the sum of all words
+  completed-sum : over (columns b) 0 (row-long b) (λ j. getD (ws ++ (completing b rs ws special made ∷ [])) j [])
+      ≡ xors (words-sum b ws) (completing b rs ws special made)
+  completed-sum =
+      let count : columns b ≡ suc (length ws) = omega (arith, l .long, columns-pos b) in
+      rw count (with-last (row-long b) ws (completing b rs ws special made))
+
   pub completes : words-and-rows b rs (ws ++ (completing b rs ws special made ∷ [])) special ≡ made
   unfolding words-and-rows
   completes =
-      let last = completing b rs ws special made in
-      let count : columns b ≡ suc (length ws) = omega (arith, l .long, columns-pos b) in
-      let words : over (columns b) 0 (row-long b) (λ j. getD (ws ++ (last ∷ [])) j []) ≡ xors (words-sum b ws) last =
-      rw count (with-last (row-long b) ws last) in
-      over-xors (columns b) 0 (row-long b) (λ j. getD (ws ++ (last ∷ [])) j []) (row-of b rs special)
-      ∙ rw words (rw completing-is
-      (unmask (row-long b) made (words-sum b ws) (rows-sum b rs special) m (words-sum-word b ws l) (rows-sum-word b rs r special inside)))
+      over-xors (columns b) 0 (row-long b) (λ j. getD (ws ++ (completing b rs ws special made ∷ [])) j []) (row-of b rs special)
+      ∙ rw (completed-sum, completing-is)
+      (unmask (row-long b) made (words-sum b ws) (rows-sum b rs special) m (words-sum-word b ws l) (rows-sum-word b rs r special inside))
 
 pub last-word-completes : Last-word-completes
 unfolding Last-word-completes

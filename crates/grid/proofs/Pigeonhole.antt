@@ -1,6 +1,6 @@
 -- Counting by pigeonholes, over functions on numbers: places below n, some of them selected, that go to different holes below m are at most m;
 -- and n places that go to different holes below n leave no hole empty. Assumes nothing.
-use mathlib.Core.Path.{_≡_, refl, sym, ap, _∙_, subst}
+use mathlib.Core.Path.{_≡_, refl, subst}
 use mathlib.Core.Bool.{Bool, true, false, not, cond}
 use mathlib.Core.Logic.{_⊎_, inl, inr, ⊎-elim}
 use Prim.Native.Nat.{ℕ, zero, suc, _+_, _-_, _≤_, _<_}
@@ -8,10 +8,40 @@ use native.Mathlib.Omega.{arith}
 use lib.Dec.{ltb, eqb}
 use borrow.Author.Tests.{ltb-true, ltb-false, eqb-true, eqb-false}
 
--- how many places below n are selected
+-- COUNTING: how many places below n are selected
 unfoldable pub count : (n : ℕ) → (selected : ℕ → Bool) → ℕ
 count zero s = 0
 count (suc n) s = cond (s n) 1 0 + count n s
+
+-- all are selected
+pub count-all : (n : ℕ) → count n (λ j. true) ≡ n
+unfolding count
+count-all zero = refl
+count-all (suc n) = let r = count-all n in omega arith
+
+-- the selected places and the others are all
+pub count-both : (n : ℕ) (s : ℕ → Bool) → count n s + count n (λ j. not (s j)) ≡ n
+unfolding count
+count-both zero s = refl
+count-both (suc n) s = go (s n) (count-both n s)
+  where
+    go : (t : Bool) → count n s + count n (λ j. not (s j)) ≡ n → (cond t 1 0 + count n s) + (cond (not t) 1 0 + count n (λ j. not (s j))) ≡ suc n
+    go true ih = omega arith
+    go false ih = omega arith
+
+-- the first place counted apart
+pub count-first : (n : ℕ) (s : ℕ → Bool) → count (suc n) s ≡ cond (s 0) 1 0 + count n (λ j. s (suc j))
+unfolding count
+count-first zero s = refl
+count-first (suc n) s = let r = count-first n s in omega arith
+
+-- a count depends on the places below n only
+pub count-same : (n : ℕ) (s t : ℕ → Bool) → ((j : ℕ) → j < n → s j ≡ t j) → count n s ≡ count n t
+unfolding count
+count-same zero s t h = refl
+count-same (suc n) s t h = rw (h n (omega arith), count-same n s t (λ j l. h j (omega arith)))
+
+-- PIGEONHOLES
 
 -- the holes without hole a, closed up
 unfoldable pub squash : (a x : ℕ) → ℕ
@@ -74,12 +104,6 @@ pigeon (suc n) m f s h =
         some-hole : (m′ : ℕ) → Apart (suc n) m′ f s → 1 + count n s ≤ m′
         some-hole zero k = let r = k .low n (omega arith) e in omega arith
         some-hole (suc m′) k = let r = ih (λ j. squash (f n) (f j)) m′ (apart-squash n m′ f s e k) in omega arith
-
--- all are selected
-pub count-all : (n : ℕ) → count n (λ j. true) ≡ n
-unfolding count
-count-all zero = refl
-count-all (suc n) = let r = count-all n in omega arith
 
 -- a place with hole v, or none
 pub found : (n v : ℕ) (f : ℕ → ℕ) → ((j : ℕ) × (j < n) × (f j ≡ v)) ⊎ ((j : ℕ) → j < n → f j ≡ v → ⊥)

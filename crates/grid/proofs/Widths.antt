@@ -1,14 +1,20 @@
--- The search for a width, one turn at a time, and that the numbers it compares fit 32 bits.
+-- The search for a width: its turns, one at a time; that it gives the least width whose square is large enough, or 256; and that the
+-- numbers it compares fit 32 bits.
 -- Assumes nothing.
-use mathlib.Core.Path.{_≡_, refl, subst, subst⁻¹}
+use mathlib.Core.Path.{_≡_, refl, sym, _∙_, subst, subst⁻¹}
+use mathlib.Core.Bool.{Bool, true, false}
+use mathlib.Core.Logic.{_⊎_, inl, inr, ⊎-elim}
 use Prim.Native.Nat.{ℕ, zero, suc, _+_, _*_, _-_, _^_, _≤_, _<_}
-use native.Mathlib.Nat.{mul-le-mul}
+use native.Mathlib.Nat.{mul-le-mul, mul-pos, zero-add}
 use native.Mathlib.Numerals.{add-one}
 use native.Mathlib.Omega.{arith}
-use lib.Pow.{pow-mono}
-use borrow.Author.Tests.{le-leb, lt-leb}
-use Rattle.grid.specs.Width.{width-from}
+use lib.Dec.{leb}
+use lib.Pow.{pow-pos, pow-mono}
+use borrow.Author.Tests.{leb-true, leb-false, le-leb, lt-leb}
+use Rattle.grid.specs.Width.{width, width-from}
 use Rattle.grid.proofs.Counting.{one-left}
+
+-- ONE TURN
 
 -- a width whose square is large enough is the answer, however many are left to try
 pub width-here : (left wide squares : ℕ) → squares ≤ wide * wide → width-from left wide squares ≡ wide
@@ -17,16 +23,76 @@ width-here zero wide squares h = refl
 width-here (suc left) wide squares h = simp (le-leb _ _ h)
 
 -- one whose square is too small is passed over
+width-on : (left wide squares : ℕ) → wide * wide < squares → width-from (suc left) wide squares ≡ width-from left (suc wide) squares
+unfolding width-from
+width-on left wide squares h = simp (lt-leb _ _ h)
+
+-- where none is left to try, the present one is the answer
+width-end : (wide squares : ℕ) → width-from 0 wide squares ≡ wide
+unfolding width-from
+width-end wide squares = refl
+
 pub width-next : (most wide squares : ℕ) → wide < most → wide * wide < squares
     → width-from (most - wide) wide squares ≡ width-from (most - (wide + 1)) (wide + 1) squares
-unfolding width-from
 width-next most wide squares below h =
-    rw (one-left most wide below) (simp (lt-leb _ _ h, add-one))
+    rw (one-left most wide below, width-on (most - (wide + 1)) wide squares h, ← add-one wide)
 
--- the widest is the answer where none is left to try
 pub width-last : (most wide squares : ℕ) → most ≤ wide → width-from (most - wide) wide squares ≡ wide
-unfolding width-from
-width-last most wide squares past = let none : most - wide ≡ 0 = omega arith in rw none
+width-last most wide squares past = let none : most - wide ≡ 0 = omega arith in rw none (width-end wide squares)
+
+-- WHAT THE SEARCH GIVES, in document 01's words: "the least μ with μ × μ ≥ N × J, or 256 if that least μ is above 256"
+
+large-or-small : (squares wide : ℕ) → (squares ≤ wide * wide) ⊎ (wide * wide < squares)
+large-or-small squares wide = go (leb squares (wide * wide)) refl
+  where
+    go : (t : Bool) → leb squares (wide * wide) ≡ t → (squares ≤ wide * wide) ⊎ (wide * wide < squares)
+    go true e = inl (leb-true squares (wide * wide) e)
+    go false e = inr (leb-false squares (wide * wide) e)
+
+-- each width below is too small
+abbrev All-small : (squares wide : ℕ) → Type 0
+All-small squares wide = (m : ℕ) → m < wide → m * m < squares
+
+one-more : (squares wide : ℕ) → All-small squares wide → wide * wide < squares → All-small squares (suc wide)
+one-more squares wide h small m below =
+    ⊎-elim (λ less. h m less) (λ same. subst⁻¹ (λ (k : ℕ). k * k < squares) same small) (less-or-same m wide below)
+  where
+    less-or-same : (m n : ℕ) → m < suc n → (m < n) ⊎ (m ≡ n)
+    less-or-same m n p = go (leb n m) refl
+      where
+        go : (t : Bool) → leb n m ≡ t → (m < n) ⊎ (m ≡ n)
+        go true e = let f = leb-true n m e in inr (omega arith)
+        go false e = inl (leb-false n m e)
+
+least-from : (left wide squares : ℕ) → All-small squares wide → All-small squares (width-from left wide squares)
+least-from zero wide squares h = rw (width-end wide squares) h
+least-from (suc left) wide squares h =
+    ⊎-elim (λ large. rw (width-here (suc left) wide squares large) h)
+    (λ small. rw (width-on left wide squares small) (least-from left (suc wide) squares (one-more squares wide h small)))
+    (large-or-small squares wide)
+
+enough-from : (left wide squares : ℕ)
+    → (squares ≤ width-from left wide squares * width-from left wide squares) ⊎ (width-from left wide squares ≡ left + wide)
+enough-from zero wide squares = inr (width-end wide squares ∙ sym (zero-add wide))
+enough-from (suc left) wide squares =
+    ⊎-elim (λ large. rw (width-here (suc left) wide squares large) (inl large))
+    (λ small.
+    let along : left + suc wide ≡ suc left + wide = omega arith in
+    rw (width-on left wide squares small, ← along) (enough-from left (suc wide) squares))
+    (large-or-small squares wide)
+
+pub width-least : (p n : ℕ) → 1 ≤ n → (m : ℕ) → m < width p n → m * m < n * 2 ^ (p - 1)
+unfolding width
+width-least p n some =
+    let squares = mul-pos some (pow-pos (p - 1)) in
+    least-from 255 1 (n * 2 ^ (p - 1))
+    (λ m below. let none : m ≡ 0 = omega arith in subst⁻¹ (λ (k : ℕ). k * k < n * 2 ^ (p - 1)) none squares)
+
+pub width-enough : (p n : ℕ) → (n * 2 ^ (p - 1) ≤ width p n * width p n) ⊎ (width p n ≡ 256)
+unfolding width
+width-enough p n = enough-from 255 1 (n * 2 ^ (p - 1))
+
+-- WHAT THE CODE COMPUTES fits 32 bits
 
 pub square-fits : (wide : ℕ) → wide ≤ 256 → wide * wide < 2 ^ 32
 square-fits wide h = let e = mul-le-mul h h in omega (arith, e)

@@ -1,7 +1,8 @@
-// The check of a dealing's arrays (number 8): every column of its array's parity once, with no mark of a player who is not there.
+// The check of a dealing's arrays (number 8): no column with a bit at p or above, none of the wrong parity, none twice.
+// An array of J such columns holds every column of its parity exactly once.
 ghost use mathlib.Core.Path.{_≡_};
-ghost use mathlib.Core.Bool.{Bool, _&&_};
-ghost use Prim.Native.Nat.{_*_, _^_, _≤_};
+ghost use mathlib.Core.Bool.{_&&_};
+ghost use Prim.Native.Nat.{_*_, _^_};
 ghost use lib.Dec.{ltb};
 ghost use lib.ListN.{length};
 ghost use Rattle.grid.specs.Grid.{board-refusal, columns, grid-rows, is-odd, same-parity, member, array-good, arrays-good};

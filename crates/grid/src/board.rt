@@ -1,5 +1,6 @@
-// A board: how many players, positions, cells of a grid row and bytes of a value. Which boards are refused, and by which number;
-// and how many columns and grid rows an accepted one has, and how long its rows are.
+// A board's four numbers. Which boards are refused, by the numbers 1 to 5; and how many columns an array of an accepted board has, how
+// many grid rows it has, and how many bytes a row has. Any four numbers may come in: what is computed from a number comes after the
+// test of its range, so nothing overflows and nothing is divided by zero.
 ghost use mathlib.Core.Path.{_≡_};
 ghost use mathlib.Core.Bool.{_&&_};
 ghost use Prim.Native.Nat.{_+_, _-_, _/_, _^_, _≤_};
@@ -31,6 +32,7 @@ pub const REFUSED_VALUE_BYTES: u32 = 4;
 
 pub const REFUSED_GRID_ROWS: u32 = 5;
 
+// p, N, μ and w: players, positions, cells of a grid row, bytes of a value.
 pub struct Board {
     pub players: u32,
     pub positions: u32,
@@ -62,7 +64,7 @@ pub fn columns_for(players: u32) -> u32
 }
 
 impl Board {
-    // The first of 1 to 5 that fits, else 0. Each range is passed before a number is computed from it.
+    // The first of 1 to 5 that fits, or 0.
     pub fn refusal(self) -> u32
         ensures { λ r. ⌜ r ≡ board-refusal (board-of self) ⌝ }
     {
@@ -84,6 +86,7 @@ impl Board {
         ACCEPTED
     }
 
+    // Columns of an array: J.
     pub fn columns(self) -> usize
         requires { ⌜ board-refusal (board-of self) ≡ 0 ⌝ }
         ensures { λ r. ⌜ r ≡ columns (board-of self) ⌝ }
@@ -91,6 +94,7 @@ impl Board {
         columns_for(self.players) as usize
     }
 
+    // Grid rows: ν.
     pub fn grid_rows(self) -> usize
         requires { ⌜ board-refusal (board-of self) ≡ 0 ⌝ }
         ensures { λ r. ⌜ r ≡ grid-rows (board-of self) ⌝ }
@@ -98,6 +102,7 @@ impl Board {
         rows_for(self.positions, self.width) as usize
     }
 
+    // Bytes of a row or of a word: μ × w.
     pub fn row_length(self) -> usize
         requires { ⌜ board-refusal (board-of self) ≡ 0 ⌝ }
         ensures { λ r. ⌜ r ≡ row-long (board-of self) ⌝ }

@@ -1,4 +1,5 @@
-// The places of the spring board's sensors: nine lines of eight, wired to and fro.
+// The positions of the spring board's sensors: nine lines of eight, wired to and fro, as a constant table.
+// The rule of the table is proved once, over all its entries.
 ghost use mathlib.Core.Path.{_≡_};
 ghost use Prim.Native.Nat.{_<_};
 ghost use Rattle.grid.specs.Width.{sensor-position};
@@ -80,7 +81,7 @@ const PLACES: [u32; 72] = [
     71,
 ];
 
-// The position of a sensor.
+// The position of a sensor below 72.
 pub fn sensor_place(sensor: u32) -> u32
     requires { ⌜ sensor < 72 ⌝ }
     ensures { λ r. ⌜ r ≡ sensor-position sensor ⌝ }

@@ -1,21 +1,21 @@
 -- Whole keys: what Check key accepts, by facts; good parts make an accepted key that is read back as these parts; an accepted key's parts
 -- are good and write that key. Assumes nothing.
 use mathlib.Core.Path.{_≡_, refl, sym, ap, _∙_, subst}
-use mathlib.Core.Bool.{Bool, true, false, _&&_, not, cond, false≢true}
-use mathlib.Core.List.{List, [], _∷_, _++_, append-assoc, append-nil}
-use Prim.Native.Nat.{ℕ, zero, suc, _+_, _*_, _-_, _/_, _%_, _^_, _≤_, _<_}
+use mathlib.Core.Bool.{Bool, true, false, not, cond, false≢true}
+use mathlib.Core.List.{List, [], _++_, append-assoc, append-nil}
+use Prim.Native.Nat.{ℕ, _+_, _*_, _<_}
 use native.Mathlib.Omega.{arith}
-use lib.Dec.{ltb, leb, eqb}
-use lib.ListN.{length, getD, take, drop, length-append, length-drop, take-append-drop}
+use lib.Dec.{leb, eqb}
+use lib.ListN.{length, drop, length-append, length-drop}
 use lib.Seq.{drop-at, take-add, take-all}
 use borrow.Author.Tests.{eqb-true, eqb-false, eq-eqb, leb-false, lt-leb, not-true, not-false}
 use Rattle.xor.specs.Xor.{bytes-good}
-use Rattle.xor.proofs.Laws.{Word, word-append, good-append, good-right, good-drop}
+use Rattle.xor.proofs.Laws.{Word, word-append, good-right, good-drop}
 use Rattle.grid.specs.Grid.{Board, columns, grid-rows, row-long, board-refusal, each-long}
 use Rattle.grid.proofs.Facts.{Board-in, board-in, board-accepted}
-use Rattle.keys.specs.Keys.{header, Head, head-in, stride, marks-good, key-refusal, key-long, mark-bytes, glued, words-from, Parts, marks-of-rows, seeds-of-rows, parts-of, parts-in, rows-written, key-written}
+use Rattle.keys.specs.Keys.{header, head-in, stride, marks-good, key-refusal, key-long, glued, words-from, Parts, parts-of, parts-in, rows-written, key-written}
 use Rattle.keys.proofs.Lists.{length-words, glue-words, each-words, length-glued, good-glued, words-glue}
-use Rattle.keys.proofs.Numbers.{header-reads, header-read-back, header-good, header-long, Writable}
+use Rattle.keys.proofs.Numbers.{header-again, header-read-back, header-good, header-long}
 use Rattle.keys.proofs.Parts.{Rows-good, marks-back, seeds-back, marks-good-back, rows-word, rows-read-good, rows-again}
 
 -- REFUSALS are chains of tests
@@ -102,7 +102,7 @@ body-in ks g k =
     let b = head-in ks .board in
     let i = head-in ks .player in
     let rest = head-in ks .rest in
-    let whole = header-reads ks g (k .header-good) in
+    let whole = header-again ks g (k .header-good) in
     let lengths : length ks ≡ length (header b i) + length rest = ap length whole ∙ length-append (header b i) rest in
     record {
       long = omega (arith, lengths, k .long);
@@ -131,15 +131,15 @@ body-again b bs f k =
     rw (rows-again (grid-rows b) b bs f (omega (arith, k .long)) (k .good) (k .marks), glue-words (columns b) (row-long b) (drop rows bs))
     (sym (take-add rows words bs) ∙ take-all (rows + words) bs (omega (arith, k .long)))
 
-pub only-writing : (ks : List ℕ) → key-refusal ks ≡ 0 → bytes-good ks ≡ true → ks ≡ key-written (head-in ks .board) (head-in ks .player) (parts-in ks)
+pub key-again : (ks : List ℕ) → key-refusal ks ≡ 0 → bytes-good ks ≡ true → ks ≡ key-written (head-in ks .board) (head-in ks .player) (parts-in ks)
 unfolding key-written parts-in
-only-writing ks r g =
+key-again ks r g =
     let k = key-in ks r in
     let b = head-in ks .board in
     let i = head-in ks .player in
     let rest = head-in ks .rest in
     let q = parts-of b rest in
-    header-reads ks g (k .header-good)
+    header-again ks g (k .header-good)
     ∙ ap (λ (l : List ℕ). header b i ++ l) (sym (body-again b rest (k .board) (body-in ks g k)))
     ∙ sym (append-assoc (header b i) (rows-written (grid-rows b) b (q .marks) (q .seeds)) (glued (q .words)))
 

@@ -9,3 +9,6 @@ pub mod Reading
 pub mod Counting
 pub mod Lengths
 pub mod Opening
+pub mod Dealing
+pub mod Promise
+pub mod Document03

@@ -1,16 +1,15 @@
 -- Strings cut into parts of one length and glued together again, and take and drop at known places. Assumes nothing.
 use mathlib.Core.Path.{_≡_, refl, sym, ap, _∙_}
-use mathlib.Core.Bool.{Bool, true, false, _&&_}
+use mathlib.Core.Bool.{true, _&&_}
 use mathlib.Core.List.{List, [], _∷_, _++_, append-assoc}
-use Prim.Native.Nat.{ℕ, zero, suc, _+_, _*_, _-_, _≤_, _<_}
-use native.Mathlib.Nat.{mul-le-mul-right}
+use Prim.Native.Nat.{ℕ, zero, suc, _+_, _*_, _≤_, _<_}
 use native.Mathlib.Omega.{arith}
 use lib.Dec.{eqb}
-use lib.ListN.{length, getD, take, drop, length-append, length-drop, take-append-drop, length-take, replicate, replicate-append-replicate}
-use lib.Seq.{take-add, drop-drop, take-nil, drop-nil, take-at, drop-at, take-append-le, take-all, drop-append-add, drop-cons, length-take-le, getD-drop}
+use lib.ListN.{length, getD, take, drop, length-append, length-drop, replicate-append-replicate}
+use lib.Seq.{take-add, drop-drop, take-at, drop-at, length-take-le}
 use borrow.Author.Tests.{eqb-true, eq-eqb}
 use Rattle.xor.specs.Xor.{xors, zeros, bytes-good}
-use Rattle.xor.proofs.Laws.{Word, word-take, word-drop, good-append, good-take, good-drop, append-xors, and-left, and-right, and-both}
+use Rattle.xor.proofs.Laws.{Word, good-append, good-take, good-drop, append-xors, and-left, and-right, and-both}
 use Rattle.grid.specs.Grid.{each-long}
 use Rattle.keys.specs.Keys.{glued, words-from}
 
@@ -53,6 +52,14 @@ drop-words (suc m) k l bs =
     let next : suc m * l ≡ l + m * l = omega arith in
     let more : suc m + k ≡ suc (m + k) = omega arith in
     rw (more, next, drop-words m k l (drop l bs), drop-drop (m * l) l bs)
+
+-- parts kept at the front
+pub take-words : (m k l : ℕ) (bs : List ℕ) → take m (words-from (m + k) l bs) ≡ words-from m l bs
+unfolding words-from
+take-words zero k l bs = refl
+take-words (suc m) k l bs =
+    let more : suc m + k ≡ suc (m + k) = omega arith in
+    rw more (ap (λ (ws : List (List ℕ)). take l bs ∷ ws) (take-words m k l (drop l bs)))
 
 -- EACH PART A WORD: strings of exactly l bytes
 
@@ -157,6 +164,17 @@ row-at l (suc k) i (suc m) F h p =
     let later : i + suc m ≡ suc i + m = omega arith in
     rw (next, later, ← drop-drop (m * l) l (F i ++ in-a-row k (suc i) F), drop-at (F i) (in-a-row k (suc i) F) l (h i (omega arith) (omega arith)))
     (row-at l k (suc i) m F (λ j a b. h j (omega arith) (omega arith)) (omega arith))
+
+pub row-split : (m k i : ℕ) (F : ℕ → List ℕ) → in-a-row (m + k) i F ≡ in-a-row m i F ++ in-a-row k (i + m) F
+unfolding in-a-row
+row-split zero k i F =
+    let all : zero + k ≡ k = omega arith in
+    let here : i + zero ≡ i = omega arith in
+    rw (all, here)
+row-split (suc m) k i F =
+    let more : suc m + k ≡ suc (m + k) = omega arith in
+    let later : i + suc m ≡ suc i + m = omega arith in
+    rw (more, later, row-split m k (suc i) F) (sym (append-assoc (F i) (in-a-row m (suc i) F) (in-a-row k (suc i + m) F)))
 
 -- XOR goes string by string
 pub row-xors : (l k i : ℕ) (F G : ℕ → List ℕ) → ((j : ℕ) → i ≤ j → j < i + k → (length (F j) ≡ l) × (length (G j) ≡ l)) →

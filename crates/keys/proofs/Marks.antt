@@ -1,17 +1,17 @@
 -- Marks packed into bytes: what is packed is read back, mark by mark, and what is read is packed into the same bytes again when the
 -- spare bits are zero. Assumes nothing.
-use mathlib.Core.Path.{_≡_, refl, sym, ap, _∙_, subst}
-use mathlib.Core.Bool.{Bool, true, false, _&&_, not, cond, false≢true}
-use mathlib.Core.List.{List, [], _∷_, _++_, append-assoc}
+use mathlib.Core.Path.{_≡_, refl, sym, ap, _∙_}
+use mathlib.Core.Bool.{Bool, true, false, not, cond}
+use mathlib.Core.List.{List, [], _∷_, _++_}
 use Prim.Native.Nat.{ℕ, zero, suc, _+_, _*_, _-_, _/_, _%_, _^_, _≤_, _<_}
 use native.Mathlib.Omega.{arith}
 use lib.Dec.{ltb, eqb}
-use lib.ListN.{length, getD, take, drop, length-append, length-drop, List·getD-eq-default}
+use lib.ListN.{length, getD, take, drop, List·getD-eq-default}
 use lib.Pow.{shr-shr}
 use lib.Seq.{drop-cons, getD-drop, drop-drop, take-all}
 use borrow.Author.Tests.{ltb-true, ltb-false, eqb-true, eqb-false, eq-eqb, ne-eqb, not-true}
 use Rattle.xor.specs.Xor.{bytes-good}
-use Rattle.xor.proofs.Laws.{and-left, and-right, and-both, good-head, good-tail, good-cons}
+use Rattle.xor.proofs.Laws.{and-left, and-right, good-head, good-tail, good-cons}
 use Rattle.grid.specs.Grid.{bit, marks-of}
 use Rattle.keys.specs.Keys.{packed-from, packed, count-marks, spare-from, marks-in, byte-of, packed-marks}
 

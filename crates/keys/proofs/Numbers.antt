@@ -1,6 +1,6 @@
 -- Numbers in groups of seven bits, and headers: what is written is read back, and what is read is the only writing of its numbers.
 -- Assumes nothing.
-use mathlib.Core.Path.{_≡_, refl, sym, ap, _∙_, subst}
+use mathlib.Core.Path.{_≡_, refl, _∙_, subst}
 use mathlib.Core.Bool.{Bool, true, false, _&&_, cond, false≢true}
 use mathlib.Core.List.{List, [], _∷_, _++_, append-assoc}
 use Prim.Native.Nat.{ℕ, zero, suc, _+_, _*_, _-_, _/_, _%_, _≤_, _<_}
@@ -9,9 +9,9 @@ use lib.Dec.{ltb}
 use lib.ListN.{length, length-append}
 use borrow.Author.Tests.{ltb-true, ltb-false, lt-ltb, le-ltb}
 use Rattle.xor.specs.Xor.{bytes-good}
-use Rattle.xor.proofs.Laws.{and-left, and-right, and-both, good-head, good-tail, good-cons, good-append, good-right}
+use Rattle.xor.proofs.Laws.{and-left, and-right, good-head, good-tail, good-cons, good-append, good-right}
 use Rattle.grid.specs.Grid.{Board, board}
-use Rattle.keys.specs.Keys.{groups, number-bytes, header, Got, got, none-got, number-in, Head, head-of, head-in}
+use Rattle.keys.specs.Keys.{groups, number-bytes, header, Got, got, none-got, number-in, head-of, head-in}
 
 -- the numbers that have at most three groups are those below this
 abbrev pub number-bound : ℕ
@@ -175,10 +175,10 @@ all-read true false n m w h = absurd (false≢true h)
 all-read false i n m w h = absurd (false≢true h)
 
 -- a header read is the only writing of its numbers, and stands in front of the rest of the key
-pub header-reads : (ks : List ℕ) → bytes-good ks ≡ true → head-in ks .good ≡ true →
+pub header-again : (ks : List ℕ) → bytes-good ks ≡ true → head-in ks .good ≡ true →
     ks ≡ header (head-in ks .board) (head-in ks .player) ++ head-in ks .rest
 unfolding header head-in head-of board
-header-reads ks g h =
+header-again ks g h =
     let p = number-in ks in
     let i = number-in (p .rest) in
     let n = number-in (i .rest) in

@@ -1,25 +1,24 @@
 -- Full tables and squares opened alone: a share by good parts has w bytes, a table N × w, and opening a square from the header and the
 -- part that begins at its grid row gives the share by the key's parts. Assumes nothing.
-use mathlib.Core.Path.{_≡_, refl, sym, ap, _∙_, subst}
-use mathlib.Core.Bool.{Bool, true, false, _&&_, cond}
-use mathlib.Core.List.{List, [], _∷_, _++_, append-assoc}
+use mathlib.Core.Path.{_≡_, refl, sym, ap, _∙_}
+use mathlib.Core.Bool.{Bool, true, false, cond}
+use mathlib.Core.List.{List, [], _∷_, _++_}
 use Prim.Native.Nat.{ℕ, zero, suc, _+_, _*_, _-_, _/_, _%_, _≤_, _<_}
 use native.Mathlib.Nat.{mul-le-mul-right}
 use native.Mathlib.Omega.{arith}
-use lib.Dec.{eqb}
-use lib.ListN.{length, getD, take, drop, length-append, length-drop}
+use lib.ListN.{length, getD, take, drop, length-drop}
 use lib.Seq.{drop-drop, drop-at}
-use Rattle.xor.specs.Xor.{xors, zeros, bytes-good}
+use Rattle.xor.specs.Xor.{xors, zeros}
 use Rattle.xor.proofs.Laws.{Word, word-xors, word-zeros}
 use Rattle.grid.specs.Grid.{Board, columns, grid-rows, row-long, bit, cell, each-long}
 use Rattle.grid.proofs.Facts.{Board-in, grid-row-in, cell-in, each-word}
 use Rattle.grid.proofs.Cells.{cell-word}
-use Rattle.keys.specs.Keys.{mark-bytes, stride, count-marks, marks-good, words-from, row-part, word-behind, opened-from, opened-part, opened, head-in, Parts, marks-in, marks-of-rows, seeds-of-rows, parts-of, parts-in, parts-share, share-by-parts, table-from, table}
+use Rattle.keys.specs.Keys.{mark-bytes, stride, count-marks, marks-good, words-from, row-part, word-behind, opened-from, opened-part, Parts, marks-in, marks-of-rows, seeds-of-rows, parts-of, parts-share, share-by-parts, table-from}
 use Rattle.keys.specs.Promise.{Rule-good}
 use Rattle.keys.proofs.Lists.{length-words, words-at, each-head, each-tail, each-drop, in-a-row, row-word, row-at}
 use Rattle.keys.proofs.Marks.{marks-set, length-marks}
-use Rattle.keys.proofs.Parts.{Rows-good, row-tests}
-use Rattle.keys.proofs.Accepted.{Parts-good, Body-in, body-parts}
+use Rattle.keys.proofs.Parts.{row-tests}
+use Rattle.keys.proofs.Accepted.{Parts-good, Body-in}
 
 -- A SHARE BY THE PARTS has w bytes
 
@@ -81,38 +80,52 @@ table-at b f q a board rule good h =
 
 -- THE PARTS FROM A GRID ROW ON are those of the part that begins there
 
-pub marks-from-row : (g k : ℕ) (b : Board) (bs : List ℕ) → drop (g * columns b) (marks-of-rows (g + k) b bs) ≡ marks-of-rows k b (row-part b bs g)
-unfolding row-part marks-of-rows
-marks-from-row zero k b bs =
-    let none : zero * columns b ≡ zero = omega arith in
-    let nowhere : zero * stride b ≡ zero = omega arith in
+-- what is read at each of k places, a stride apart
+unfoldable by-rows {ℓ} : {A : Type ℓ} → (left step : ℕ) → (read : List ℕ → List A) → List ℕ → List A
+by-rows zero s F bs = []
+by-rows (suc k) s F bs = F bs ++ by-rows k s F (drop s bs)
+
+-- where n things are read at each place, g times n of them are those of the first g places
+by-rows-from {ℓ} : {A : Type ℓ} (g k s n : ℕ) (F : List ℕ → List A) (bs : List ℕ) → ((xs : List ℕ) → length (F xs) ≡ n) →
+    drop (g * n) (by-rows (g + k) s F bs) ≡ by-rows k s F (drop (g * s) bs)
+unfolding by-rows
+by-rows-from zero k s n F bs e =
+    let none : zero * n ≡ zero = omega arith in
+    let nowhere : zero * s ≡ zero = omega arith in
     let all : zero + k ≡ k = omega arith in
     rw (none, nowhere, all)
-marks-from-row (suc g) k b bs =
+by-rows-from (suc g) k s n F bs e =
     let more : suc g + k ≡ suc (g + k) = omega arith in
-    let next : suc g * columns b ≡ columns b + g * columns b = omega arith in
-    let further : suc g * stride b ≡ stride b + g * stride b = omega arith in
-    let first = marks-in (columns b) 0 bs in
-    let others = marks-of-rows (g + k) b (drop (stride b) bs) in
-    rw (more, next, further, ← drop-drop (g * columns b) (columns b) (first ++ others), drop-at first others (columns b) (length-marks (columns b) 0 bs))
-    (marks-from-row g k b (drop (stride b) bs) ∙ ap (λ (l : List ℕ). marks-of-rows k b l) (drop-drop (g * stride b) (stride b) bs))
+    let next : suc g * n ≡ n + g * n = omega arith in
+    let further : suc g * s ≡ s + g * s = omega arith in
+    let others = by-rows (g + k) s F (drop s bs) in
+    rw (more, next, further, ← drop-drop (g * n) n (F bs ++ others), drop-at (F bs) others n (e bs), ← drop-drop (g * s) s bs)
+    (by-rows-from g k s n F (drop s bs) e)
+
+marks-by-rows : (k : ℕ) (b : Board) (bs : List ℕ) → marks-of-rows k b bs ≡ by-rows k (stride b) (marks-in (columns b) 0) bs
+unfolding marks-of-rows by-rows
+marks-by-rows zero b bs = refl
+marks-by-rows (suc k) b bs = ap (λ (ms : List Bool). marks-in (columns b) 0 bs ++ ms) (marks-by-rows k b (drop (stride b) bs))
+
+abbrev row-seeds : Board → List ℕ → List (List ℕ)
+row-seeds b bs = words-from (columns b / 2) 32 (drop (mark-bytes b) bs)
+
+seeds-by-rows : (k : ℕ) (b : Board) (bs : List ℕ) → seeds-of-rows k b bs ≡ by-rows k (stride b) (row-seeds b) bs
+unfolding seeds-of-rows by-rows
+seeds-by-rows zero b bs = refl
+seeds-by-rows (suc k) b bs = ap (λ (ss : List (List ℕ)). row-seeds b bs ++ ss) (seeds-by-rows k b (drop (stride b) bs))
+
+pub marks-from-row : (g k : ℕ) (b : Board) (bs : List ℕ) → drop (g * columns b) (marks-of-rows (g + k) b bs) ≡ marks-of-rows k b (row-part b bs g)
+unfolding row-part
+marks-from-row g k b bs =
+    rw (marks-by-rows (g + k) b bs, marks-by-rows k b (drop (g * stride b) bs))
+    (by-rows-from g k (stride b) (columns b) (marks-in (columns b) 0) bs (length-marks (columns b) 0))
 
 pub seeds-from-row : (g k : ℕ) (b : Board) (bs : List ℕ) → drop (g * (columns b / 2)) (seeds-of-rows (g + k) b bs) ≡ seeds-of-rows k b (row-part b bs g)
-unfolding row-part seeds-of-rows
-seeds-from-row zero k b bs =
-    let none : zero * (columns b / 2) ≡ zero = omega arith in
-    let nowhere : zero * stride b ≡ zero = omega arith in
-    let all : zero + k ≡ k = omega arith in
-    rw (none, nowhere, all)
-seeds-from-row (suc g) k b bs =
-    let half = columns b / 2 in
-    let more : suc g + k ≡ suc (g + k) = omega arith in
-    let next : suc g * half ≡ half + g * half = omega arith in
-    let further : suc g * stride b ≡ stride b + g * stride b = omega arith in
-    let first = words-from half 32 (drop (mark-bytes b) bs) in
-    let others = seeds-of-rows (g + k) b (drop (stride b) bs) in
-    rw (more, next, further, ← drop-drop (g * half) half (first ++ others), drop-at first others half (length-words half 32 (drop (mark-bytes b) bs)))
-    (seeds-from-row g k b (drop (stride b) bs) ∙ ap (λ (l : List ℕ). seeds-of-rows k b l) (drop-drop (g * stride b) (stride b) bs))
+unfolding row-part
+seeds-from-row g k b bs =
+    rw (seeds-by-rows (g + k) b bs, seeds-by-rows k b (drop (g * stride b) bs))
+    (by-rows-from g k (stride b) (columns b / 2) (row-seeds b) bs (λ xs. length-words (columns b / 2) 32 (drop (mark-bytes b) xs)))
 
 -- each grid row's test
 pub tests-at : (k g : ℕ) (b : Board) (bs : List ℕ) → g < k → marks-good k b bs ≡ true → count-marks (columns b) 0 (row-part b bs g) ≡ columns b / 2
@@ -133,10 +146,9 @@ pub word-behind-is : (b : Board) (bs : List ℕ) (g j : ℕ) → g ≤ grid-rows
     word-behind b (row-part b bs g) g j ≡ take (row-long b) (drop (grid-rows b * stride b + j * row-long b) bs)
 unfolding word-behind row-part
 word-behind-is b bs g j h =
-    let rest = (grid-rows b - g) * stride b in
-    let place : g * stride b + (rest + j * row-long b) ≡ grid-rows b * stride b + j * row-long b =
+    let place : g * stride b + ((grid-rows b - g) * stride b + j * row-long b) ≡ grid-rows b * stride b + j * row-long b =
     omega (arith, rows-behind g (grid-rows b) (stride b) h) in
-    rw (drop-drop (rest + j * row-long b) (g * stride b) bs, place)
+    ap (take (row-long b)) (drop-drop ((grid-rows b - g) * stride b + j * row-long b) (g * stride b) bs ∙ ap (λ (n : ℕ). drop n bs) place)
 
 -- OPENING goes over the marks and takes the seeds one after another, as a share by the parts does
 

@@ -1,19 +1,19 @@
 -- A key's parts: parts that are good are read back as they were written, an accepted key's parts are good, and write that key again.
 -- Assumes nothing.
-use mathlib.Core.Path.{_≡_, refl, sym, ap, _∙_, subst}
-use mathlib.Core.Bool.{Bool, true, false, _&&_, not, cond, false≢true}
-use mathlib.Core.List.{List, [], _∷_, _++_, append-assoc, append-nil}
-use Prim.Native.Nat.{ℕ, zero, suc, _+_, _*_, _-_, _/_, _%_, _^_, _≤_, _<_}
+use mathlib.Core.Path.{_≡_, refl, sym, ap, _∙_}
+use mathlib.Core.Bool.{Bool, true, _&&_}
+use mathlib.Core.List.{List, [], _∷_, _++_, append-assoc}
+use Prim.Native.Nat.{ℕ, zero, suc, _+_, _*_, _-_, _/_, _≤_, _<_}
 use native.Mathlib.Omega.{arith}
-use lib.Dec.{ltb, leb, eqb}
-use lib.ListN.{length, getD, take, drop, length-append, length-drop, take-append-drop}
-use lib.Seq.{drop-drop, take-at, drop-at, take-add, take-all, length-take-le, take-append-le, drop-append-add}
+use lib.Dec.{eqb}
+use lib.ListN.{length, take, drop, length-append, length-drop, take-append-drop}
+use lib.Seq.{drop-drop, take-at, drop-at, take-add, length-take-le}
 use borrow.Author.Tests.{eqb-true, eq-eqb}
 use Rattle.xor.specs.Xor.{bytes-good}
-use Rattle.xor.proofs.Laws.{Word, and-left, and-right, and-both, good-append, good-drop, good-take}
-use Rattle.grid.specs.Grid.{Board, columns, grid-rows, row-long, each-long}
+use Rattle.xor.proofs.Laws.{Word, and-left, and-right, and-both, good-append, good-drop}
+use Rattle.grid.specs.Grid.{Board, columns, each-long}
 use Rattle.grid.proofs.Facts.{Board-in, columns-half}
-use Rattle.keys.specs.Keys.{mark-bytes, count-marks, spare-from, stride, marks-good, glued, words-from, Parts, marks-in, marks-of-rows, seeds-of-rows, packed-marks, rows-written}
+use Rattle.keys.specs.Keys.{mark-bytes, count-marks, spare-from, stride, marks-good, glued, words-from, marks-in, marks-of-rows, seeds-of-rows, packed-marks, rows-written}
 use Rattle.keys.proofs.Lists.{length-words, glue-words, each-append, each-drop, each-take, each-words, length-glued, good-glued, words-glue}
 use Rattle.keys.proofs.Marks.{marks-set, count-marks-is, length-marks, packed-marks-back, marks-read-back, spare-read-back, length-packed, good-packed}
 

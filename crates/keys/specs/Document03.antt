@@ -2,7 +2,7 @@
 -- body, and `Rule-good`, which asked good rows of every list. proofs/Document03.antt shows that this opening is `opened` of Keys.antt at every
 -- square, and proves document 03's statements under its own names. Assumes nothing: these are definitions and statements.
 use mathlib.Core.Path.{_≡_}
-use mathlib.Core.Bool.{Bool, true, cond}
+use mathlib.Core.Bool.{true, cond}
 use mathlib.Core.List.{List}
 use Prim.Native.Nat.{ℕ, zero, suc, _+_, _*_, _/_, _%_, _<_}
 use lib.Dec.{eqb}

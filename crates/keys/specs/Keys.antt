@@ -1,15 +1,13 @@
 -- Keys as bytes (document 01, "Bytes of a key", Deal and Check key): numbers in groups, headers, what Deal writes, what Check key refuses,
 -- a key's parts and its full table, and opening a square alone. These are document 03's definitions word for word, but for opening:
 -- document 01 opens from the header and the part that begins at the square's grid row, so `opened` here reads nothing else. Document 03's
--- own text of it stands in Document03.antt, and proofs/Opening.antt shows the two equal. Quotations are document 01's.
+-- own text of it stands in Document03.antt, and proofs/Document03.antt shows the two equal. Quotations are document 01's.
 -- Assumes nothing: these are definitions.
-use mathlib.Core.Path.{_≡_}
-use mathlib.Core.Bool.{Bool, true, false, _&&_, _||_, not, cond}
+use mathlib.Core.Bool.{Bool, true, false, _&&_, not, cond}
 use mathlib.Core.List.{List, [], _∷_, _++_}
-use mathlib.Core.Option.{Option, none, some}
-use Prim.Native.Nat.{ℕ, zero, suc, _+_, _*_, _-_, _/_, _%_, _^_, _≤_, _<_, min}
+use Prim.Native.Nat.{ℕ, zero, suc, _+_, _*_, _-_, _/_, _%_, _^_}
 use lib.Dec.{ltb, leb, eqb}
-use lib.ListN.{length, getD, set, take, drop, replicate}
+use lib.ListN.{length, getD, take, drop}
 use Rattle.xor.specs.Xor.{xors, zeros}
 use Rattle.grid.specs.Grid.{Board, board, columns, grid-rows, row-long, board-refusal, Dealing, arrays-good, all-words, bit, cell}
 
@@ -35,9 +33,11 @@ pub record Got : Type 0 where
   pub value : ℕ
   pub rest : List ℕ
 
+-- a number and what stands behind it
 unfoldable pub got : (value : ℕ) → List ℕ → Got
 got v bs = record { good = true; value = v; rest = bs }
 
+-- no number: refusal 10
 abbrev pub none-got : Got
 none-got = record { good = false; value = 0; rest = [] }
 
@@ -58,6 +58,7 @@ pub record Head : Type 0 where
   pub player : ℕ
   pub rest : List ℕ
 
+-- the header of five answers: it is there when all five numbers are
 unfoldable pub head-of : (p i n m w : Got) → Head
 head-of p i n m w =
     record {
@@ -67,6 +68,7 @@ head-of p i n m w =
       rest = w .rest;
     }
 
+-- the header of a key, each number read behind the one before
 unfoldable pub head-in : List ℕ → Head
 head-in bs =
     let p = number-in bs in

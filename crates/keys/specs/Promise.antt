@@ -3,13 +3,14 @@
 -- which is asked here of 32-byte seeds of bytes only, so that each statement says more; document 03's own are in Document03.antt.
 -- Quotations are document 01's. Assumes nothing.
 use mathlib.Core.Path.{_≡_}
-use mathlib.Core.Bool.{Bool, true, false, _&&_, _||_, not, cond}
-use mathlib.Core.List.{List, [], _∷_, _++_}
-use Prim.Native.Nat.{ℕ, zero, suc, _+_, _*_, _-_, _/_, _%_, _^_, _≤_, _<_, min}
-use lib.Dec.{ltb, leb, eqb}
-use lib.ListN.{length, getD, set, take, drop, replicate}
-use Rattle.xor.specs.Xor.{xors, zeros, bytes-good}
+use mathlib.Core.Bool.{Bool, true, _&&_, cond}
+use mathlib.Core.List.{List, _++_}
+use Prim.Native.Nat.{ℕ, suc, _*_, _-_, _<_}
+use lib.Dec.{eqb}
+use lib.ListN.{length, take, drop}
+use Rattle.xor.specs.Xor.{zeros, bytes-good}
 use Rattle.grid.specs.Grid.{Board, columns, grid-rows, row-long, share, joined-from, marks-of, held-rows, all-words}
+use Rattle.grid.specs.Joining.{over}
 use Rattle.keys.specs.Keys.{Lent, dealing, key, keys-from, key-long, deal-refusal, key-refusal, opened, table, head-in, header, Parts, parts-in, key-written, words-from}
 
 -- "a row rule gives each 32-byte seed some μ × w bytes": nothing is asked of it on other lists
@@ -62,6 +63,12 @@ Dealt-accepted =
     (b : Board) (f : List ℕ → List ℕ) (l : Lent) (i : ℕ) → lent-good b l ≡ true → Rule-good b f → i < b .p →
     (key-refusal (key b f l i) ≡ 0) × (length (key b f l i) ≡ key-long b) × (bytes-good (key b f l i) ≡ true)
 
+-- "Deal's p × K bytes"
+unfoldable pub Keys-long : Type 0
+Keys-long =
+    (b : Board) (f : List ℕ → List ℕ) (l : Lent) → lent-good b l ≡ true → Rule-good b f →
+    (length (keys-from (b .p) 0 b f l) ≡ b .p * key-long b) × (bytes-good (keys-from (b .p) 0 b f l) ≡ true)
+
 -- "cut after every K": the i-th K bytes of what Deal writes are player i's key
 unfoldable pub Keys-apart : Type 0
 Keys-apart =
@@ -98,11 +105,6 @@ Tables-join =
     (b : Board) (f : List ℕ → List ℕ) (l : Lent) (a : ℕ) → lent-good b l ≡ true → Rule-good b f → a < b .n →
     joined-from (b .p) 0 b (dealing b f l) a ≡ cond (eqb a (l .point)) (l .value) (zeros (b .w))
 
--- the XOR of the full tables of the keys dealt to players i and on
-unfoldable pub joined-tables : (left i : ℕ) → Board → (rule : List ℕ → List ℕ) → Lent → List ℕ
-joined-tables zero i b f l = zeros (b .n * b .w)
-joined-tables (suc k) i b f l = xors (table f (key b f l i)) (joined-tables k (suc i) b f l)
-
 -- a table with a value at a point and zeros elsewhere
 unfoldable pub point-table : Board → (point : ℕ) → (value : List ℕ) → List ℕ
 point-table b a v = zeros (a * b .w) ++ v ++ zeros ((b .n - suc a) * b .w)
@@ -111,4 +113,4 @@ point-table b a v = zeros (a * b .w) ++ v ++ zeros ((b .n - suc a) * b .w)
 unfoldable pub Full-tables-join : Type 0
 Full-tables-join =
     (b : Board) (f : List ℕ → List ℕ) (l : Lent) → lent-good b l ≡ true → Rule-good b f →
-    joined-tables (b .p) 0 b f l ≡ point-table b (l .point) (l .value)
+    over (b .p) 0 (b .n * b .w) (λ i. table f (key b f l i)) ≡ point-table b (l .point) (l .value)

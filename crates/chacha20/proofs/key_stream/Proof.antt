@@ -1,10 +1,8 @@
 -- `chacha20::key_stream` meets its contract. The loop's invariant: whole blocks are written up to `done`, the rest is as it was lent. Assumes nothing.
-use borrow.Author.Needs.{needs}
-use mathlib.Core.Path.{_≡_, refl, _∙_}
-use Prim.Native.Nat.{ℕ, _≤_, _+_, _-_, _*_}
+use mathlib.Core.Path.{_≡_, _∙_}
+use Prim.Native.Nat.{_+_, _-_}
 use native.Mathlib.Omega.{arith}
 use lib.ListN.{length}
-use denote.Ref.{now}
 use borrow.Rule.Slice.PartMut.{mid-len, same-len-mid}
 use Rattle.chacha20.proofs.Stream.{Written, start, next-block, ended, cut}
 use Rattle.chacha20.proofs.key_stream.Statement.{statement}

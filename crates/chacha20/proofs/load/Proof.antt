@@ -2,7 +2,6 @@
 use borrow.Author.Needs.{needs}
 use Rattle.chacha20.proofs.Words.{word-of-four}
 use mathlib.Core.Path.{_∙_}
-use denote.Ref.{now}
 use Rattle.chacha20.proofs.load.Statement.{statement}
 use Rattle.chacha20.proofs.load.Tie as tie
 

@@ -1,7 +1,6 @@
 -- `chacha20::put_word` meets its contract. Four bytes are written into four places. Assumes nothing.
 use borrow.Author.Needs.{needs}
-use Rattle.chacha20.proofs.Words.{four-written}
-use Rattle.chacha20.specs.Expand.{low-bytes}
+use Rattle.chacha20.proofs.Words.{word-written}
 use denote.Ref.{now}
 use Rattle.chacha20.proofs.put_word.Statement.{statement}
 use Rattle.chacha20.proofs.put_word.Tie as tie
@@ -34,8 +33,7 @@ same-length : tie.Need-same-length
 same-length c = search needs
 
 returns : tie.Need-returns
-unfolding low-bytes
-returns c = four-written (now (c .args .out)) _ _ _ _ (search needs)
+returns c = word-written (now (c .args .out)) (c .args .word) (c .pre)
 
 pub put-word-spec : {M : Type 1} → statement M
 put-word-spec =

@@ -1,7 +1,6 @@
 -- `chacha20::word_of` meets its contract. The sum is the definition's. Assumes nothing.
 use borrow.Author.Needs.{needs}
 use mathlib.Core.Path.{refl}
-use Prim.Native.Nat.{ℕ}
 use Rattle.chacha20.specs.Expand.{word-at, at}
 use Rattle.chacha20.proofs.word_of.Statement.{statement}
 use Rattle.chacha20.proofs.word_of.Tie as tie

@@ -9,7 +9,7 @@ use borrow.Author.Needs.{needs}
 use lib.ListN.{length, drop}
 use Rattle.grid.specs.Grid.{board, columns, grid-rows, arrays-good}
 use Rattle.grid.specs.Code.{board-of}
-use Rattle.grid.proofs.Accepted.{accepted}
+use Rattle.grid.proofs.Facts.{board-in}
 use Rattle.grid.proofs.Checking.{row-inside, arrays-begin, arrays-stop, arrays-next, arrays-done}
 use Rattle.grid.proofs.array_check.arrays_good.Statement.{statement}
 use Rattle.grid.proofs.array_check.arrays_good.Tie as tie
@@ -32,7 +32,7 @@ columns-requires c κs = c .before .before .pre .0
 
 div-point-row : tie.Need-div-point-row Inv-loop μ-loop
 unfolding board
-div-point-row c = accepted _ (c .before .before .before .before .pre .0) .width-least
+div-point-row c = board-in _ (c .before .before .before .before .pre .0) .wide-least
 
 cast-point-row : tie.Need-cast-point-row Inv-loop μ-loop
 cast-point-row c =

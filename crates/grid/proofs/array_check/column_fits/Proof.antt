@@ -4,7 +4,7 @@ use native.Mathlib.Omega.{arith}
 use borrow.Author.Needs.{needs}
 use Prim.Native.Nat.{_<_}
 use Rattle.grid.specs.Grid.{board}
-use Rattle.grid.proofs.Accepted.{accepted}
+use Rattle.grid.proofs.Facts.{board-in}
 use Rattle.grid.proofs.Powers.{shifted-one}
 use Rattle.grid.proofs.Checking.{column-high, column-low}
 use Rattle.grid.proofs.array_check.column_fits.Statement.{statement}
@@ -12,7 +12,7 @@ use Rattle.grid.proofs.array_check.column_fits.Tie as tie
 
 few : (c : tie.Start) → c .args .board .players < 32
 unfolding board
-few c = let a = accepted _ (c .pre) in omega (arith, a .players-most)
+few c = let a = board-in _ (c .pre) in omega (arith, a .players-most)
 
 shl-limit : tie.Need-shl-limit
 shl-limit c = few (c .before)

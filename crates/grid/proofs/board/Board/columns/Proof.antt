@@ -3,13 +3,13 @@
 use native.Mathlib.Omega.{arith}
 use borrow.Author.Needs.{needs}
 use Rattle.grid.specs.Grid.{board, columns}
-use Rattle.grid.proofs.Accepted.{accepted}
+use Rattle.grid.proofs.Facts.{board-in}
 use Rattle.grid.proofs.board.Board.columns.Statement.{statement}
 use Rattle.grid.proofs.board.Board.columns.Tie as tie
 
 columns-for-requires : tie.Need-columns-for-requires
 unfolding board
-columns-for-requires c κs = let a = accepted _ (c .pre) in (a .players-least, a .players-most)
+columns-for-requires c κs = let a = board-in _ (c .pre) in (a .players-least, a .players-most)
 
 cast-result : tie.Need-cast-result
 cast-result c = search needs

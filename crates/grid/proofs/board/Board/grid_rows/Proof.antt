@@ -2,14 +2,14 @@
 -- Assumes nothing.
 use borrow.Author.Needs.{needs}
 use Rattle.grid.specs.Grid.{board, grid-rows}
-use Rattle.grid.proofs.Accepted.{accepted}
+use Rattle.grid.proofs.Facts.{board-in}
 use Rattle.grid.proofs.board.Board.grid_rows.Statement.{statement}
 use Rattle.grid.proofs.board.Board.grid_rows.Tie as tie
 
 rows-for-requires : tie.Need-rows-for-requires
 unfolding board
 rows-for-requires c κs =
-    let a = accepted _ (c .pre) in (a .positions-most, a .width-least, a .width-most)
+    let a = board-in _ (c .pre) in (a .positions-most, a .wide-least, a .wide-most)
 
 cast-result : tie.Need-cast-result
 cast-result c = search needs

@@ -7,7 +7,7 @@ use mathlib.Core.Bool.{true, false}
 use Prim.Native.Nat.{ℕ}
 use lib.Dec.{ltb}
 use Rattle.grid.specs.Grid.{board, grid-rows}
-use Rattle.grid.proofs.Accepted.{In, in-range, passed, failed, refused-1, refused-2, refused-3, refused-4, refused-5, refused-0}
+use Rattle.grid.proofs.Refusing.{In, in-range, passed, failed, refused-1, refused-2, refused-3, refused-4, refused-5, refused-0}
 use Rattle.grid.proofs.board.Board.refusal.Statement.{statement}
 use Rattle.grid.proofs.board.Board.refusal.Tie as tie
 

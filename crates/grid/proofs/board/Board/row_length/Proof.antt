@@ -3,17 +3,18 @@
 use mathlib.Core.Path.{refl}
 use native.Mathlib.Omega.{arith}
 use Rattle.grid.specs.Grid.{board, row-long}
-use Rattle.grid.proofs.Accepted.{accepted, row-most}
+use Rattle.grid.proofs.Facts.{board-in}
+use Rattle.grid.proofs.Sizes.{row-most}
 use Rattle.grid.proofs.board.Board.row_length.Statement.{statement}
 use Rattle.grid.proofs.board.Board.row_length.Tie as tie
 
 mul-result : tie.Need-mul-result
 unfolding board row-long
-mul-result c = omega (arith, row-most _ (c .before .pre))
+mul-result c = omega (arith, row-most _ (board-in _ (c .before .pre)))
 
 cast-result : tie.Need-cast-result
 unfolding board row-long
-cast-result c = omega (arith, row-most _ (c .before .pre))
+cast-result c = omega (arith, row-most _ (board-in _ (c .before .pre)))
 
 returns : tie.Need-returns
 unfolding board row-long

@@ -1,0 +1,76 @@
+-- Document 03's own statements, each under its statement's name in small letters: its opening, which reads the words from the whole body, is
+-- the opening from the header and the part alone, at every square; and a rule that is good on every list is good on seeds. Assumes nothing.
+use mathlib.Core.Path.{_≡_, refl, sym, ap₂, _∙_}
+use mathlib.Core.Bool.{cond}
+use mathlib.Core.List.{List}
+use Prim.Native.Nat.{ℕ, zero, suc, _+_, _*_, _-_, _/_, _%_, _≤_, _<_}
+use native.Mathlib.Nat.{div-zero, div-mul-le-self, le-div-iff-mul-le, zero-lt-suc}
+use native.Mathlib.Omega.{arith}
+use lib.ListN.{getD, take, drop}
+use Rattle.xor.specs.Xor.{xors, zeros}
+use Rattle.grid.specs.Grid.{Board, columns, grid-rows, bit, cell}
+use Rattle.keys.specs.Keys.{mark-bytes, row-part, opened-from, opened-part, opened, head-in, key}
+use Rattle.keys.specs.Promise as Promise
+use Rattle.keys.specs.Document03 as Document03
+use Rattle.keys.proofs.Opening.{word-behind-is}
+use Rattle.keys.proofs.Promise as Proved
+
+-- OPENING
+
+same-from : (k j n : ℕ) (b : Board) (f : List ℕ → List ℕ) (bs : List ℕ) (g c : ℕ) (xs : List ℕ) → g ≤ grid-rows b →
+    Document03.opened-from k j n b f bs (row-part b bs g) c xs ≡ opened-from k j n b f (row-part b bs g) g c xs
+unfolding Document03.opened-from opened-from Document03.word-in
+same-from zero j n b f bs g c xs h = refl
+same-from (suc k) j n b f bs g c xs h =
+    let part = row-part b bs g in
+    let seed = take 32 (drop (mark-bytes b + 32 * n) part) in
+    rw (word-behind-is b bs g j h)
+    (ap₂ (cond (bit (getD part (j / 8) 0) (j % 8)))
+    (same-from k (suc j) (suc n) b f bs g c (xors xs (xors (cell b c (Document03.word-in b bs j)) (cell b c (f seed)))) h)
+    (same-from k (suc j) n b f bs g c xs h))
+
+-- every square has its grid row
+quotient-mono : (a c m : ℕ) → a ≤ c → a / m ≤ c / m
+quotient-mono a c zero h = rw (div-zero a) (omega arith)
+quotient-mono a c (suc m) h = le-div-iff-mul-le (zero-lt-suc m) .1 (omega (arith, div-mul-le-self a (suc m)))
+
+square-row : (b : Board) (a : ℕ) → a < b .n → a / b .wide ≤ grid-rows b
+unfolding grid-rows
+square-row b a h = quotient-mono a (b .n + b .wide - 1) (b .wide) (omega arith)
+
+-- document 03's opening is the opening of Keys.antt, for every list of numbers and every rule
+pub same-opening : (f : List ℕ → List ℕ) (ks : List ℕ) (a : ℕ) → a < head-in ks .board .n → Document03.opened f ks a ≡ opened f ks a
+unfolding Document03.opened opened opened-part
+same-opening f ks a h =
+    let b = head-in ks .board in
+    same-from (columns b) 0 0 b f (head-in ks .rest) (a / b .wide) (a % b .wide) (zeros (b .w)) (square-row b a h)
+
+-- RULES
+
+-- a rule that is good on every list is good on seeds
+pub rule-good : (b : Board) (f : List ℕ → List ℕ) → Document03.Rule-good b f → Promise.Rule-good b f
+unfolding Document03.Rule-good Promise.Rule-good
+rule-good b f rule seed long good = rule seed
+
+-- THE STATEMENTS
+
+pub tables-join : Document03.Tables-join
+unfolding Document03.Tables-join Promise.Tables-join
+tables-join b f l a lent rule h = Proved.tables-join b f l a lent (rule-good b f rule) h
+
+pub keys-open : Document03.Keys-open
+unfolding Document03.Keys-open Promise.Keys-open Promise.Reads-parts
+keys-open b f l i a lent rule h p =
+    let good = rule-good b f rule in
+    let opens = Proved.keys-open b f l i a lent good h p in
+    let board = Proved.reads-parts b f l i lent good h .1 in
+    (opens .0, opens .1, same-opening f (key b f l i) a (rw board p) ∙ opens .2)
+
+pub opens-alone : Document03.Opens-alone
+unfolding Document03.Opens-alone Promise.Opens-alone
+opens-alone f ks a r g rule h =
+    Proved.opens-alone f ks a r g (rule-good (head-in ks .board) f rule) h ∙ sym (same-opening f ks a h)
+
+pub reads-parts : Document03.Reads-parts
+unfolding Document03.Reads-parts Promise.Reads-parts
+reads-parts b f l i lent rule h = Proved.reads-parts b f l i lent (rule-good b f rule) h

@@ -1,0 +1,154 @@
+//! Operations on numbers, seeds and shares: Key length, Choose width, Sensor position, Expand,
+//! Join shares.
+
+use super::{bytes_call, numbers_call, Maker};
+use crate::data::{CHOOSE_WIDTH, EXPAND, JOIN_SHARES, KEY_LENGTH, SENSOR_POSITION};
+
+pub fn add(maker: &mut Maker) {
+    key_lengths(maker);
+    widths(maker);
+    sensors(maker);
+    expansions(maker);
+    shares(maker);
+}
+
+fn key_lengths(maker: &mut Maker) {
+    let cases = [
+        (0, [2, 1, 1, 1]),
+        (0, [4, 72, 24, 1]),
+        (0, [6, 65_536, 256, 16]),
+        (0, [6, 256, 1, 1]),
+        (0, [2, 127, 127, 1]),
+        (0, [3, 128, 128, 2]),
+        (0, [5, 16_383, 64, 7]),
+        (0, [5, 16_384, 64, 7]),
+        (1, [0, 1, 1, 1]),
+        (1, [1, 1, 1, 1]),
+        (1, [7, 1, 1, 1]),
+        (1, [u32::MAX, 1, 1, 1]),
+        (1, [7, 0, 0, 0]),
+        (2, [2, 0, 1, 1]),
+        (2, [2, 65_537, 256, 1]),
+        (2, [2, u32::MAX, 1, 1]),
+        (2, [2, 0, 0, 0]),
+        (3, [2, 1, 0, 1]),
+        (3, [2, 65_536, 0, 0]),
+        (3, [2, 1, 257, 1]),
+        (3, [2, 1, u32::MAX, 17]),
+        (4, [2, 1, 1, 0]),
+        (4, [2, 1, 1, 17]),
+        (4, [2, 65_536, 1, u32::MAX]),
+        (5, [2, 257, 1, 1]),
+        (5, [2, 65_536, 255, 1]),
+        (5, [6, 65_536, 1, 16]),
+    ];
+    for (refusal, numbers) in cases {
+        maker.add(refusal, numbers_call(KEY_LENGTH, &numbers));
+    }
+    for players in 2..=6 {
+        for _ in 0..5 {
+            let numbers = [
+                players,
+                1 + maker.generator.below(65_536) as u32,
+                1 + maker.generator.below(256) as u32,
+                1 + maker.generator.below(16) as u32,
+            ];
+            maker.add_any(numbers_call(KEY_LENGTH, &numbers));
+        }
+    }
+}
+
+fn widths(maker: &mut Maker) {
+    let cases = [
+        (0, [2, 64]),
+        (0, [4, 72]),
+        (0, [6, 65_536]),
+        (0, [2, 1]),
+        (0, [3, 1]),
+        (0, [6, 1]),
+        (0, [6, 2_048]),
+        (0, [6, 2_049]),
+        (0, [2, 32_768]),
+        (0, [2, 32_769]),
+        (0, [3, 16]),
+        (0, [3, 17]),
+        (1, [1, 72]),
+        (1, [7, 0]),
+        (1, [u32::MAX, u32::MAX]),
+        (2, [2, 0]),
+        (2, [6, 65_537]),
+        (2, [3, u32::MAX]),
+    ];
+    for (refusal, numbers) in cases {
+        maker.add(refusal, numbers_call(CHOOSE_WIDTH, &numbers));
+    }
+    for players in 2..=6 {
+        for most in [100, 3_000, 65_536] {
+            let positions = 1 + maker.generator.below(most) as u32;
+            maker.add(0, numbers_call(CHOOSE_WIDTH, &[players, positions]));
+        }
+    }
+}
+
+fn sensors(maker: &mut Maker) {
+    for sensor in 0..72 {
+        maker.add(0, numbers_call(SENSOR_POSITION, &[sensor]));
+    }
+    for sensor in [72, 73, 256, u32::MAX] {
+        maker.add(17, numbers_call(SENSOR_POSITION, &[sensor]));
+    }
+}
+
+fn expansions(maker: &mut Maker) {
+    for length in [0, 1, 24, 63, 64, 65, 128, 200, 1_000, 4_095, 4_096] {
+        let seed = maker.generator.bytes(32);
+        maker.add(0, bytes_call(EXPAND, &[], &seed, length));
+    }
+    maker.add(0, bytes_call(EXPAND, &[], &[0; 32], 128));
+    for seed_bytes in [0, 31, 33, 64] {
+        let seed = maker.generator.bytes(seed_bytes);
+        maker.add(7, bytes_call(EXPAND, &[], &seed, 64));
+        maker.add(7, bytes_call(EXPAND, &[], &seed, 4_097));
+    }
+    for length in [4_097, 8_192] {
+        let seed = maker.generator.bytes(32);
+        maker.add(16, bytes_call(EXPAND, &[], &seed, length));
+    }
+}
+
+fn shares(maker: &mut Maker) {
+    for players in 2..=6 {
+        for width in [1, 5, 16] {
+            let exact = (players * width) as usize;
+            let shares = maker.generator.bytes(exact + 1);
+            let output = width as usize;
+            let mut add = |refusal, input: &[u8], lent| {
+                maker.add(
+                    refusal,
+                    bytes_call(JOIN_SHARES, &[players, width], input, lent),
+                );
+            };
+            add(0, &shares[..exact], output);
+            add(0, &shares[..exact], output + 3);
+            add(7, &shares[..exact - 1], output);
+            add(7, &shares, 0);
+            add(9, &shares[..exact], output - 1);
+        }
+    }
+    let cases = [
+        (1, 1, 1),
+        (1, 7, 0),
+        (1, 0, 17),
+        (1, u32::MAX, u32::MAX),
+        (4, 2, 0),
+        (4, 2, 17),
+        (4, 6, u32::MAX),
+    ];
+    for (refusal, players, width) in cases {
+        let shares = maker.generator.bytes(2);
+        maker.add(
+            refusal,
+            bytes_call(JOIN_SHARES, &[players, width], &shares, 0),
+        );
+    }
+}

@@ -1,0 +1,43 @@
+//! Nosingginger's second implementation: a p-party distributed point function on a
+//! square-root grid, with ChaCha20 rows.
+//!
+//! Written from document 01 alone, without sight of the proved library, so that the two can
+//! be compared. It is plain on purpose: one step for one sentence of the paper, and the
+//! sentence stands beside the step. It is not made to be fast and it does not hide timing.
+//!
+//! Every operation takes slices and answers `Result<_, u32>`; the `u32` is the paper's
+//! refusal number. On a refusal no lent byte is changed.
+//!
+//! | operation of document 01 | here |
+//! |---|---|
+//! | Key length | [`key::key_length`] |
+//! | Deal | [`deal::deal`] |
+//! | Check key | [`key::check_key`] |
+//! | Open one | [`open::open_one`] |
+//! | Open all | [`open::open_all`] |
+//! | Join shares | [`join::join_shares`] |
+//! | Join keys | [`join::join_keys`] |
+//! | Held seed | [`key::held_seed`] |
+//! | Expand | [`chacha::expand`] |
+//! | Choose width | [`width::choose_width`] |
+//! | Sensor position | [`sensors::sensor_position`] |
+//! | the dealing program | [`programs::dealing_program`] |
+//! | the joining program | [`programs::joining_program`] |
+//!
+//! [`draw`], [`data`] and [`cases`] make the data of the comparison; they are no part of the
+//! paper.
+
+pub mod board;
+pub mod cases;
+pub mod chacha;
+pub mod data;
+pub mod deal;
+pub mod draw;
+pub mod join;
+pub mod key;
+pub mod numbers;
+pub mod open;
+pub mod programs;
+pub mod refusal;
+pub mod sensors;
+pub mod width;

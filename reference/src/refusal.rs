@@ -1,0 +1,36 @@
+//! The refusal numbers of document 01, "Operations and what each turns away".
+
+/// 1: p outside its range.
+pub const PLAYERS: u32 = 1;
+/// 2: N outside its range.
+pub const POSITIONS: u32 = 2;
+/// 3: μ outside its range.
+pub const GRID_WIDTH: u32 = 3;
+/// 4: w outside its range.
+pub const VALUE_WIDTH: u32 = 4;
+/// 5: ν above 256.
+pub const GRID_ROWS: u32 = 5;
+/// 6: point ≥ N.
+pub const POINT: u32 = 6;
+/// 7: a lent input of another length.
+pub const INPUT_LENGTH: u32 = 7;
+/// 8: an array with a bit at p or above, wrong parity for its grid row, or a column twice.
+pub const ARRAY: u32 = 8;
+/// 9: output too short.
+pub const OUTPUT_SHORT: u32 = 9;
+/// 10: a header number cut short, over three groups or not shortest.
+pub const HEADER_NUMBER: u32 = 10;
+/// 11: player ≥ p.
+pub const PLAYER: u32 = 11;
+/// 12: length not K (of p keys: not p × K).
+pub const KEY_LENGTH: u32 = 12;
+/// 13: some mark row without exactly J/2 ones, or a spare bit set.
+pub const MARKS: u32 = 13;
+/// 14: position ≥ N.
+pub const POSITION: u32 = 14;
+/// 15: p, N, μ or w differ from the first key, or the player is not its place.
+pub const KEYS_DIFFER: u32 = 15;
+/// 16: expansion's output above 4,096 bytes.
+pub const EXPANSION_LONG: u32 = 16;
+/// 17: sensor ≥ 72.
+pub const SENSOR: u32 = 17;

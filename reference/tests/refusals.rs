@@ -1,0 +1,325 @@
+//! "The first number that fits is given, never another, and only when it fits. A refusal
+//! returns its number and leaves all lent bytes unchanged. Output past the bytes named keeps
+//! its bytes."
+
+use reference::board::Board;
+use reference::chacha::expand;
+use reference::deal::{deal, Dealing};
+use reference::draw::{Drawn, Generator};
+use reference::join::{join_keys, join_shares};
+use reference::key::{check_key, held_seed, key_length, Header};
+use reference::open::{open_all, open_one};
+use reference::width::choose_width;
+
+const FILL: u8 = 0xC3;
+
+/// Runs an operation on a lent output, and sees that it writes `written` bytes, or none when
+/// it refuses.
+fn on_output(
+    lent: usize,
+    written: usize,
+    operation: impl Fn(&mut [u8]) -> Result<(), u32>,
+) -> Result<Vec<u8>, u32> {
+    let mut output = vec![FILL; lent];
+    match operation(&mut output) {
+        Ok(()) => {
+            assert!(output[written..].iter().all(|&byte| byte == FILL));
+            output.truncate(written);
+            Ok(output)
+        }
+        Err(number) => {
+            assert!(output.iter().all(|&byte| byte == FILL));
+            Err(number)
+        }
+    }
+}
+
+fn drawn(numbers: [u32; 4], start: u64) -> Drawn {
+    let [players, positions, grid_width, value_width] = numbers;
+    let board = Board::new(players, positions, grid_width, value_width).unwrap();
+    Drawn::new(board, &mut Generator::new(start))
+}
+
+#[test]
+fn key_length_and_width() {
+    assert_eq!(key_length(7, 0, 0, 0), Err(1));
+    assert_eq!(key_length(1, 0, 257, 17), Err(1));
+    assert_eq!(key_length(6, 0, 0, 0), Err(2));
+    assert_eq!(key_length(6, 65_537, 0, 0), Err(2));
+    assert_eq!(key_length(6, 65_536, 0, 0), Err(3));
+    assert_eq!(key_length(6, 65_536, 257, 17), Err(3));
+    assert_eq!(key_length(6, 65_536, 1, 0), Err(4));
+    assert_eq!(key_length(6, 65_536, 1, 17), Err(4));
+    assert_eq!(key_length(6, 65_536, 1, 16), Err(5));
+    assert_eq!(key_length(2, 257, 1, 1), Err(5));
+    assert!(key_length(2, 256, 1, 1).is_ok());
+    assert!(key_length(2, 1, 256, 16).is_ok());
+    assert_eq!(choose_width(1, 0), Err(1));
+    assert_eq!(choose_width(7, 65_537), Err(1));
+    assert_eq!(choose_width(2, 0), Err(2));
+    assert_eq!(choose_width(2, 65_537), Err(2));
+}
+
+#[test]
+fn expansion() {
+    for lent in [0, 1, 4_096, 4_097] {
+        for seed in [0, 31, 33] {
+            let answer = on_output(lent, lent, |output| expand(&vec![0; seed], output));
+            assert_eq!(answer, Err(7));
+        }
+        let answer = on_output(lent, lent, |output| expand(&[0; 32], output));
+        assert_eq!(answer.is_ok(), lent <= 4_096);
+        assert_eq!(answer.err().unwrap_or(16), 16);
+    }
+}
+
+#[test]
+fn shares() {
+    let join = |players, width: u32, shares: &[u8], lent| {
+        on_output(lent, width as usize, |output| {
+            join_shares(players, width, shares, output)
+        })
+    };
+    assert_eq!(join(7, 0, &[], 0), Err(1));
+    assert_eq!(join(1, 17, &[], 0), Err(1));
+    assert_eq!(join(2, 0, &[1], 0), Err(4));
+    assert_eq!(join(2, 17, &[1], 0), Err(4));
+    assert_eq!(join(2, 2, &[1, 2, 3], 0), Err(7));
+    assert_eq!(join(2, 2, &[1, 2, 3, 4, 5], 0), Err(7));
+    assert_eq!(join(2, 2, &[1, 2, 3, 4], 1), Err(9));
+    assert_eq!(join(2, 2, &[1, 2, 4, 8], 2), Ok(vec![5, 10]));
+    assert_eq!(join(3, 1, &[1, 2, 4], 5), Ok(vec![7]));
+}
+
+/// Deal with all faults from each number on: the first is given.
+#[test]
+fn deal_gives_the_first_number() {
+    let drawn = drawn([3, 7, 3, 2], 1);
+    let right = drawn.dealing();
+    let dealt = drawn.keys().concat();
+    let run =
+        |dealing: Dealing, lent| on_output(lent, dealt.len(), |output| deal(&dealing, output));
+    assert_eq!(run(right, dealt.len()), Ok(dealt.clone()));
+    assert_eq!(run(right, dealt.len() + 9), Ok(dealt.clone()));
+    let mut dealing = right;
+    assert_eq!(run(dealing, dealt.len() - 1), Err(9));
+    let wrong_arrays: Vec<u8> = drawn.arrays.iter().map(|column| column ^ 1).collect();
+    dealing.arrays = &wrong_arrays;
+    assert_eq!(run(dealing, 0), Err(8));
+    for shorter in 0..4 {
+        let mut cut = dealing;
+        match shorter {
+            0 => cut.value = &drawn.value[1..],
+            1 => cut.arrays = &wrong_arrays[1..],
+            2 => cut.seeds = &drawn.seeds[1..],
+            _ => cut.words = &drawn.words[1..],
+        }
+        assert_eq!(run(cut, 0), Err(7));
+    }
+    dealing.seeds = &[];
+    assert_eq!(run(dealing, 0), Err(7));
+    dealing.point = 7;
+    assert_eq!(run(dealing, 0), Err(6));
+    dealing.point = u32::MAX;
+    assert_eq!(run(dealing, 0), Err(6));
+    dealing.positions = 65_536;
+    dealing.grid_width = 1;
+    assert_eq!(run(dealing, 0), Err(5));
+    dealing.value_width = 0;
+    assert_eq!(run(dealing, 0), Err(4));
+    dealing.grid_width = 0;
+    assert_eq!(run(dealing, 0), Err(3));
+    dealing.positions = 0;
+    assert_eq!(run(dealing, 0), Err(2));
+    dealing.players = 7;
+    assert_eq!(run(dealing, 0), Err(1));
+}
+
+/// 8: every one-byte change of the arrays is turned away, and so is every swap of two arrays
+/// that moves the odd one.
+#[test]
+fn every_changed_array_is_refused() {
+    for players in 2..=6 {
+        let drawn = drawn([players, 5, 2, 1], u64::from(players));
+        let dealt = drawn.keys().concat().len();
+        for place in 0..drawn.arrays.len() {
+            for column in 0..=255 {
+                let mut arrays = drawn.arrays.clone();
+                arrays[place] = column;
+                let dealing = Dealing {
+                    arrays: &arrays,
+                    ..drawn.dealing()
+                };
+                let answer = on_output(dealt, dealt, |output| deal(&dealing, output));
+                let own = column == drawn.arrays[place];
+                assert_eq!(answer.err(), if own { None } else { Some(8) });
+            }
+        }
+        for point in 0..5 {
+            let dealing = Dealing {
+                point,
+                ..drawn.dealing()
+            };
+            let answer = on_output(dealt, dealt, |output| deal(&dealing, output));
+            let same_row = point / 2 == drawn.point / 2;
+            assert_eq!(answer.err(), if same_row { None } else { Some(8) });
+        }
+    }
+}
+
+/// Check key, Open one, Open all and Held seed on a key with all faults from each number on.
+#[test]
+fn a_key_gives_its_first_number() {
+    let drawn = drawn([3, 7, 3, 1], 2);
+    let key = drawn.keys()[1].clone();
+    let header = Header {
+        players: 3,
+        player: 1,
+        positions: 7,
+        grid_width: 3,
+        value_width: 1,
+    };
+    assert_eq!(check_key(&key), Ok(header));
+    let refused = |key: &[u8], number| {
+        assert_eq!(check_key(key), Err(number));
+        for lent in [0, 7] {
+            for position in [0, 7] {
+                let answer = on_output(lent, 0, |output| open_one(key, position, output));
+                assert_eq!(answer, Err(number));
+            }
+            let answer = on_output(lent, 0, |output| open_all(key, output));
+            assert_eq!(answer, Err(number));
+        }
+        for column in 0..4 {
+            assert!(held_seed(key, 0, column).is_empty());
+        }
+    };
+    let mut wrong = key.clone();
+    wrong[5] = 0x7F;
+    refused(&wrong, 13);
+    wrong.pop();
+    refused(&wrong, 12);
+    wrong[1] = 3;
+    refused(&wrong, 11);
+    let body = wrong[5..].to_vec();
+    let with = |numbers: &[u8]| [numbers, &body].concat();
+    refused(&with(&[3, 3, 0x80, 0x80, 0x04, 1, 1]), 5);
+    refused(&with(&[3, 3, 0x80, 0x80, 0x04, 1, 0]), 4);
+    refused(&with(&[3, 3, 0x80, 0x80, 0x04, 0, 0]), 3);
+    refused(&with(&[3, 3, 0, 0, 0]), 2);
+    refused(&with(&[7, 3, 0, 0, 0]), 1);
+    refused(&[7, 3, 0, 0], 10);
+    refused(&[7, 3, 0, 0, 0x80], 10);
+    refused(&with(&[7, 3, 0, 0, 0x80, 0x00]), 10);
+    refused(&with(&[7, 3, 0, 0, 0x80, 0x80, 0x80, 0x01]), 10);
+    refused(&[], 10);
+    // The longest numbers that three groups hold.
+    refused(&with(&[0xFF, 0xFF, 0x7F, 0, 1, 1, 1]), 1);
+    refused(&with(&[3, 0, 0xFF, 0xFF, 0x7F, 1, 1]), 2);
+}
+
+#[test]
+fn an_accepted_key_refuses_positions_then_outputs() {
+    let drawn = drawn([4, 10, 3, 5], 4);
+    let key = &drawn.keys()[2];
+    let one = |position, lent| on_output(lent, 5, |output| open_one(key, position, output));
+    assert_eq!(one(10, 0), Err(14));
+    assert_eq!(one(10, 5), Err(14));
+    assert_eq!(one(u32::MAX, 5), Err(14));
+    assert_eq!(one(9, 4), Err(9));
+    assert!(one(9, 5).is_ok());
+    assert!(one(9, 8).is_ok());
+    let all = |lent| on_output(lent, 50, |output| open_all(key, output));
+    assert_eq!(all(49), Err(9));
+    assert_eq!(all(0), Err(9));
+    assert!(all(50).is_ok());
+    assert!(all(60).is_ok());
+}
+
+#[test]
+fn held_seeds_are_parts_of_the_key_itself() {
+    for players in 2..=6u32 {
+        let drawn = drawn([players, 7, 3, 1], 40 + u64::from(players));
+        let columns = drawn.board.columns();
+        for (player, key) in drawn.keys().iter().enumerate() {
+            for grid_row in 0..4 {
+                for column in 0..columns + 2 {
+                    let part = held_seed(key, grid_row as u32, column as u32);
+                    let exists = grid_row < 3 && column < columns;
+                    let place = grid_row * columns + column;
+                    if !exists || drawn.arrays[place] >> player & 1 == 0 {
+                        assert!(part.is_empty());
+                        continue;
+                    }
+                    assert_eq!(part, &drawn.seeds[32 * place..][..32]);
+                    assert!(key.as_ptr_range().contains(&part.as_ptr()));
+                }
+            }
+            assert!(held_seed(key, u32::MAX, 0).is_empty());
+            assert!(held_seed(key, 0, u32::MAX).is_empty());
+        }
+    }
+}
+
+/// Join keys: a later key with all faults from each number on, behind a first key that is
+/// right; then the first key's own.
+#[test]
+fn join_keys_gives_the_first_number() {
+    let drawn = drawn([2, 6, 4, 1], 6);
+    let keys = drawn.keys().concat();
+    let join = |keys: &[u8], lent| on_output(lent, 6, |output| join_keys(keys, output));
+    assert_eq!(join(&keys, 6), Ok(drawn.joined_table()));
+    assert_eq!(join(&keys, 9), Ok(drawn.joined_table()));
+    assert_eq!(join(&keys, 5), Err(9));
+    let with_header = |numbers: &[u8]| {
+        let mut changed = keys.clone();
+        changed[84] = 0;
+        changed[79..79 + numbers.len()].copy_from_slice(numbers);
+        join(&changed, 0)
+    };
+    assert_eq!(with_header(&[2, 1, 6, 4, 1]), Err(13));
+    // 15: each of p, N, μ, w and the player differs, the marks are wrong as well.
+    assert_eq!(with_header(&[3, 1, 6, 4, 1]), Err(15));
+    assert_eq!(with_header(&[2, 0, 6, 4, 1]), Err(15));
+    assert_eq!(with_header(&[2, 1, 5, 4, 1]), Err(15));
+    assert_eq!(with_header(&[2, 1, 6, 3, 1]), Err(15));
+    assert_eq!(with_header(&[2, 1, 6, 4, 2]), Err(15));
+    assert_eq!(with_header(&[2, 2, 5, 4, 1]), Err(11));
+    assert_eq!(with_header(&[2, 2, 0x81, 0x02, 1, 1]), Err(5));
+    assert_eq!(with_header(&[2, 2, 6, 4, 0]), Err(4));
+    assert_eq!(with_header(&[2, 2, 6, 0, 0]), Err(3));
+    assert_eq!(with_header(&[2, 2, 0, 0, 0]), Err(2));
+    assert_eq!(with_header(&[7, 2, 0, 0, 0]), Err(1));
+    assert_eq!(with_header(&[7, 2, 0, 0, 0x80, 0]), Err(10));
+    // The first key's own numbers, with the second key all wrong.
+    let with_first = |numbers: &[u8]| {
+        let mut changed = keys.clone();
+        changed[79..].fill(0xFF);
+        changed[..numbers.len()].copy_from_slice(numbers);
+        join(&changed, 0)
+    };
+    assert_eq!(with_first(&[2, 1, 6, 4, 1, 0x7F]), Err(15));
+    assert_eq!(with_first(&[2, 0, 6, 4, 1, 0x7F]), Err(13));
+    assert_eq!(with_first(&[2, 0, 6, 4, 1]), Err(10));
+    assert_eq!(with_first(&[2, 0, 6, 3, 1]), Err(12));
+    assert_eq!(with_first(&[3, 0, 6, 4, 1]), Err(12));
+    assert_eq!(with_first(&[2, 2, 6, 3, 1]), Err(11));
+    assert_eq!(with_first(&[2, 2, 0x81, 0x02, 1, 1]), Err(5));
+    assert_eq!(with_first(&[2, 2, 6, 4, 17]), Err(4));
+    assert_eq!(with_first(&[2, 2, 6, 0, 0]), Err(3));
+    assert_eq!(with_first(&[2, 2, 0, 0, 0]), Err(2));
+    assert_eq!(with_first(&[1, 2, 0, 0, 0]), Err(1));
+    assert_eq!(with_first(&[1, 2, 0, 0, 0x80, 0]), Err(10));
+}
+
+/// Keys of the same length from different boards: N 1, μ 2, w 1 and N 1, μ 1, w 2.
+#[test]
+fn keys_of_equal_length_may_differ() {
+    let one = drawn([2, 1, 2, 1], 8).keys();
+    let other = drawn([2, 1, 1, 2], 8).keys();
+    assert_eq!(one[0].len(), other[1].len());
+    let answer = on_output(9, 0, |output| {
+        join_keys(&[&one[0][..], &other[1]].concat(), output)
+    });
+    assert_eq!(answer, Err(15));
+}
