@@ -8,7 +8,10 @@ pub mod Accepted
 pub mod Reading
 pub mod Counting
 pub mod Lengths
+pub mod Checks
 pub mod Opening
 pub mod Dealing
 pub mod Promise
 pub mod Document03
+pub mod Holding
+pub mod DealtSeeds

@@ -8,13 +8,15 @@ use native.Mathlib.Nat.{sub-zero}
 use native.Mathlib.Omega.{arith}
 use borrow.Author.Tests.{lt-ltb, le-ltb, ltb-true, ltb-false}
 use lib.Dec.{ltb}
-use lib.ListN.{length, getD, take, drop, length-drop, drop-of-length-le, List·getD-eq-default}
+use lib.ListN.{length, getD, drop, length-drop, drop-of-length-le, List·getD-eq-default}
 use lib.Seq.{drop-cons, drop-drop, drop-length, getD-drop}
 use Rattle.grid.specs.Grid.{Board, board}
+use Rattle.grid.specs.Code.{board-of}
 use Rattle.keys.specs.Keys.{Got, got, none-got, number-in, Head, head-of, head-in}
-use Rattle.keys.specs.Answers.{number-of, number-at, header-of, heading-in}
+use Rattle.keys.specs.Answers.{number-of, number-at, read-as, header-of, heading-in}
 use Rattle.keys.specs.declared.reader.Number.{Number}
 use Rattle.keys.specs.declared.reader.Reader.{Reader}
+use Rattle.keys.specs.declared.reader.Header.{Header}
 use Rattle.keys.specs.declared.reader.Heading.{Heading}
 
 -- a number by its first three bytes, where those past the end count as 0
@@ -170,6 +172,33 @@ read-broken ks at e = go (number-in (drop at ks) .good) refl
     go true h = let z : _≡_ {A = ℕ} 0 1 = cc in absurd (omega arith)
     go false h = h
 
+-- so the answer, case by case, is document 03's reading of what stands there
+none-chosen : (s t u v : Bool) (x y z : ℕ) (bs : List ℕ)
+    → (cond s (got x (drop 1 bs)) (cond t (cond u (got y (drop 2 bs)) none-got) (cond v (got z (drop 3 bs)) none-got))) .good ≡ false
+    → none-got ≡ cond s (got x (drop 1 bs)) (cond t (cond u (got y (drop 2 bs)) none-got) (cond v (got z (drop 3 bs)) none-got))
+unfolding got
+none-chosen true t u v x y z bs e = let z : _≡_ {A = ℕ} 0 1 = cc in absurd (omega arith)
+none-chosen false true true v x y z bs e = let z : _≡_ {A = ℕ} 0 1 = cc in absurd (omega arith)
+none-chosen false true false v x y z bs e = refl
+none-chosen false false u true x y z bs e = let z : _≡_ {A = ℕ} 0 1 = cc in absurd (omega arith)
+none-chosen false false u false x y z bs e = refl
+
+none-there : (bs : List ℕ) → number-in bs .good ≡ false → none-got ≡ number-in bs
+unfolding number-in grouped
+none-there [] e = refl
+none-there (a ∷ bs) e =
+    rw number-in-is
+    (none-chosen (ltb a 128) (ltb (getD bs 0 0) 128) (ltb 0 (getD bs 0 0)) (ltb (getD bs 1 0) 128 && ltb 0 (getD bs 1 0)) _ _ _ (a ∷ bs)
+    (rw number-in-is at e))
+
+pub number-read : (ks : List ℕ) (at : ℕ) → read-as ks (number-at ks at) ≡ number-in (drop at ks)
+unfolding read-as
+number-read ks at = go (number-at ks at) refl
+  where
+    go : (r : Number) → r ≡ number-at ks at → read-as ks (number-at ks at) ≡ number-in (drop at ks)
+    go (Number.Whole v next) e = rw (← e) (sym (read-whole ks at v next e))
+    go Number.Broken e = rw (← e) (none-there (drop at ks) (read-broken ks at e))
+
 -- THE HEADER, number by number: each is read where the one before ended
 pub broken-first : (ks : List ℕ) → Number.Broken ≡ number-at ks 0 → head-in ks .good ≡ false
 unfolding head-in head-of
@@ -234,3 +263,44 @@ pub heading-whole : (ks : List ℕ) (p i n m w : ℕ) (next : Reader) → next .
 unfolding heading-in header-of board
 heading-whole ks p i n m w next inside e =
     let at : length ks - length (drop (next .at) ks) ≡ next .at = omega (arith, length-drop (next .at) ks) in rw (e, at)
+
+-- what is left behind a header is the end of the key
+ends-head : (ks : List ℕ) → Ends ks (head-in ks .rest)
+unfolding head-in head-of
+ends-head ks =
+    let p = number-in ks in
+    let i = number-in (p .rest) in
+    let n = number-in (i .rest) in
+    let m = number-in (n .rest) in
+    let w = number-in (m .rest) in
+    let two = ends-trans ks (p .rest) (i .rest) (ends-number ks) (ends-number (p .rest)) in
+    let three = ends-trans ks (i .rest) (n .rest) two (ends-number (i .rest)) in
+    let four = ends-trans ks (n .rest) (m .rest) three (ends-number (n .rest)) in
+    ends-trans ks (m .rest) (w .rest) four (ends-number (m .rest))
+
+head-by : (t : Bool) (x b : Board) (y i : ℕ) (xs ys : List ℕ) → t ≡ true → x ≡ b → y ≡ i → xs ≡ ys
+    → _≡_ {A = Head} (record { good = t; board = x; player = y; rest = xs }) (record { good = true; board = b; player = i; rest = ys })
+head-by t x b y i xs ys d e f g = cc
+
+-- what the answer says of the header that stands there
+pub heading-says : (ks : List ℕ) (h : Header) (next : Reader) → Heading.Whole h next ≡ heading-in ks
+    → head-in ks ≡ record { good = true; board = board-of (h .board); player = h .player; rest = drop (next .at) ks }
+unfolding heading-in header-of board Ends
+heading-says ks h next e = go (head-in ks .good) refl
+  where
+    go : (t : Bool) → head-in ks .good ≡ t
+        → head-in ks ≡ record { good = true; board = board-of (h .board); player = h .player; rest = drop (next .at) ks }
+    go true good =
+        let same : h ≡ header-of (head-in ks) = cc in
+        let place : next .at ≡ length ks - length (head-in ks .rest) = cc in
+        head-by (head-in ks .good) (head-in ks .board) (board-of (h .board)) (head-in ks .player) (h .player) (head-in ks .rest)
+        (drop (next .at) ks) good (sym (ap (λ (x : Header). board-of (x .board)) same)) (sym (ap (λ (x : Header). x .player) same)) (rw place (sym (ends-head ks)))
+    go false good = let z : _≡_ {A = ℕ} 0 1 = cc in absurd (omega arith)
+
+pub heading-none : (ks : List ℕ) → Heading.Broken ≡ heading-in ks → head-in ks .good ≡ false
+unfolding heading-in
+heading-none ks e = go (head-in ks .good) refl
+  where
+    go : (t : Bool) → head-in ks .good ≡ t → head-in ks .good ≡ false
+    go true good = let z : _≡_ {A = ℕ} 0 1 = cc in absurd (omega arith)
+    go false good = good

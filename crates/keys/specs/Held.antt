@@ -1,13 +1,52 @@
 -- What a grid row of a key holds, in document 03's words: marks, and the seeds of marked columns.
 -- Assumes nothing: these are definitions.
-use mathlib.Core.Bool.{Bool, cond, _&&_}
+use mathlib.Core.Path.{_≡_}
+use mathlib.Core.Bool.{Bool, true, cond, _&&_}
 use mathlib.Core.List.{List, []}
-use Prim.Native.Nat.{ℕ, _+_, _*_, _-_, _/_, _%_}
+use Prim.Native.Nat.{ℕ, _+_, _*_, _-_, _/_, _%_, _<_}
 use lib.Dec.{ltb, eqb}
 use lib.ListN.{length, getD, take, drop}
-use Rattle.grid.specs.Grid.{Board, columns, grid-rows, bit}
-use Rattle.keys.specs.Keys.{header, head-in, mark-bytes, count-marks, spare-from, stride, key-refusal, row-part}
+use Rattle.grid.specs.Grid.{Board, columns, grid-rows, bit, column}
+use Rattle.keys.specs.Keys.{Lent, key, header, head-in, mark-bytes, count-marks, spare-from, stride, key-refusal, row-part}
+use Rattle.keys.specs.Promise.{Rule-good, lent-good}
 
 -- "column j is bit j mod 8 of byte j div 8"
 unfoldable pub marked : (part : List ℕ) → (column : ℕ) → Bool
 marked ps j = bit (getD ps (j / 8) 0) (j % 8)
+
+-- "A player marks exactly J/2 columns", and "spare bits zero": what 13 asks of one grid row
+unfoldable pub row-fits : Board → (part : List ℕ) → Bool
+row-fits b ps =
+    eqb (count-marks (columns b) 0 ps) (columns b / 2)
+    && spare-from (8 * mark-bytes b - columns b) (columns b) ps
+
+-- "then the seeds of marked columns in column order": where a marked column's seed stands in its grid row
+unfoldable pub seed-from : Board → (part : List ℕ) → (column : ℕ) → ℕ
+seed-from b ps j = mark-bytes b + 32 * count-marks j 0 ps
+
+-- HELD SEED. "The part is empty if Check key refuses, the row or column doesn't exist, or the mark is zero"
+unfoldable pub holds : (key : List ℕ) → (g j : ℕ) → Bool
+holds ks g j =
+    let h = head-in ks in
+    let b = h .board in
+    eqb (key-refusal ks) 0 && (ltb g (grid-rows b) && (ltb j (columns b) && marked (row-part b (h .rest) g) j))
+
+-- "the 32 bytes of the caller's key itself for a grid row and column"
+unfoldable pub held-seed : (key : List ℕ) → (g j : ℕ) → List ℕ
+held-seed ks g j =
+    let h = head-in ks in
+    let b = h .board in
+    let part = row-part b (h .rest) g in cond (holds ks g j) (take 32 (drop (seed-from b part j) part)) []
+
+-- where these bytes begin in the key, or 0
+unfoldable pub held-seed-place : (key : List ℕ) → (g j : ℕ) → ℕ
+held-seed-place ks g j =
+    let h = head-in ks in
+    let b = h .board in
+    cond (holds ks g j) (length (header b (h .player)) + g * stride b + seed-from b (row-part b (h .rest) g) j) 0
+
+-- of a dealt key it is the seed lent for that grid row and column, where the column has the player's mark
+unfoldable pub Held-as-dealt : Type 0
+Held-as-dealt =
+    (b : Board) (f : List ℕ → List ℕ) (l : Lent) (i g j : ℕ) → lent-good b l ≡ true → Rule-good b f → i < b .p → g < grid-rows b → j < columns b →
+    held-seed (key b f l i) g j ≡ cond (bit (column b (l .arrays) g j) i) (take 32 (drop (32 * (g * columns b + j)) (l .seeds))) []

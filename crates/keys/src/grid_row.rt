@@ -5,10 +5,10 @@ use grid::board::Board;
 ghost use mathlib.Core.Path.{_≡_};
 ghost use Prim.Native.Nat.{_+_, _*_, _-_, _≤_};
 ghost use lib.ListN.{length, take, drop};
-ghost use Rattle.grid.specs.Grid.{board-refusal};
+ghost use Rattle.grid.specs.Grid.{board-refusal, columns, grid-rows};
 ghost use Rattle.grid.specs.Code.{board-of};
-ghost use Rattle.keys.specs.Keys.{mark-bytes, stride, count-marks};
-ghost use Rattle.keys.specs.Held.{marked};
+ghost use Rattle.keys.specs.Keys.{mark-bytes, stride, count-marks, marks-good};
+ghost use Rattle.keys.specs.Held.{marked, row-fits, seed-from};
 
 // Bytes of a seed.
 pub const SEED_BYTES: usize = 32;
@@ -55,7 +55,8 @@ pub fn marks_between(part: &[u8], from: usize, until: usize) -> usize
     let mut count: usize = 0;
     let mut column = from;
     while column < until {
-        if mark(part, column) {
+        let marked = mark(part, column);
+        if marked {
             count += 1;
         }
         column += 1;
@@ -70,4 +71,45 @@ pub fn seed_after(part: &[u8], marks: usize, seeds: usize) -> &[u8]
 {
     let from = marks + SEED_BYTES * seeds;
     &part[from..from + SEED_BYTES]
+}
+
+// Whether a grid row's marks are in order: exactly half the columns are marked, and no spare bit is set.
+pub fn row_fits(part: &[u8], board: Board) -> bool
+    requires { ⌜ board-refusal (board-of board) ≡ 0 ⌝ }
+    ensures { λ r. ⌜ r ≡ row-fits (board-of board) (now (part .entry)) ⌝ }
+{
+    let columns = board.columns();
+    let marks = marks_between(part, 0, columns);
+    if marks != columns / 2 {
+        return false;
+    }
+    let bits = 8 * mark_bytes(board);
+    marks_between(part, columns, bits) == 0
+}
+
+// Whether the marks of every grid row are in order, in what follows a header.
+pub fn marks_good(body: &[u8], board: Board) -> bool
+    requires { ⌜ board-refusal (board-of board) ≡ 0 ⌝ }
+    ensures { λ r. ⌜ r ≡ marks-good (grid-rows (board-of board)) (board-of board) (now (body .entry)) ⌝ }
+{
+    let row = stride(board);
+    let mut part = body;
+    let mut left = board.grid_rows();
+    while 0 < left {
+        if !row_fits(part, board) {
+            return false;
+        }
+        let next = part_from(part, row);
+        part = next;
+        left -= 1;
+    }
+    true
+}
+
+// Where a marked column's seed begins in its grid row: behind the marks, and a seed for each marked column before it.
+pub fn seed_from(part: &[u8], board: Board, column: usize) -> usize
+    requires { ⌜ (board-refusal (board-of board) ≡ 0) × (column ≤ columns (board-of board)) ⌝ }
+    ensures { λ r. ⌜ r ≡ seed-from (board-of board) (now (part .entry)) column ⌝ }
+{
+    mark_bytes(board) + SEED_BYTES * marks_between(part, 0, column)
 }

@@ -3,10 +3,11 @@ use crate::grid_row::stride;
 use crate::reader::Header;
 use grid::board::Board;
 ghost use mathlib.Core.Path.{_≡_};
+ghost use Prim.Native.Nat.{_+_, _*_, _≤_};
 ghost use lib.ListN.{length};
-ghost use Rattle.grid.specs.Grid.{board-refusal};
+ghost use Rattle.grid.specs.Grid.{board-refusal, grid-rows};
 ghost use Rattle.grid.specs.Code.{board-of};
-ghost use Rattle.keys.specs.Keys.{number-bytes, key-long};
+ghost use Rattle.keys.specs.Keys.{number-bytes, stride, key-long};
 ghost use Rattle.keys.specs.Answers.{header-written};
 
 // Bytes of a number, a group of seven bits to each.
@@ -41,4 +42,13 @@ pub fn key_length(board: Board) -> usize
 {
     let anyone = Header { board, player: 0 };
     header_length(anyone) + board.grid_rows() * stride(board) + board.columns() * board.row_length()
+}
+
+// Where a grid row's part begins in a key: behind the header and all grid rows before it.
+pub fn grid_row_from(header: Header, grid_row: usize) -> usize
+    requires { ⌜ (board-refusal (board-of («header» .board)) ≡ 0) × («grid_row» ≤ grid-rows (board-of («header» .board))) ⌝ }
+    ensures { λ r. ⌜ r ≡ length (header-written «header») + «grid_row» * stride (board-of («header» .board)) ⌝ }
+{
+    let board = header.board;
+    header_length(header) + grid_row * stride(board)
 }
