@@ -1,6 +1,6 @@
 -- The laws of whole keys: how long their parts are, that a key is its front and the last word, and keys written one behind another. Assumes nothing.
 use mathlib.Core.Path.{_≡_, refl, sym, ap, _∙_, subst}
-use mathlib.Core.Bool.{Bool, true, false, _&&_, cond}
+use mathlib.Core.Bool.{Bool, true, false, cond}
 use mathlib.Core.List.{List, [], _∷_, _++_, append-assoc, append-nil}
 use Prim.Native.Nat.{ℕ, zero, suc, _+_, _*_, _-_, _/_, _^_, _≤_, _<_}
 use native.Mathlib.Omega.{arith}
@@ -10,17 +10,17 @@ use lib.ListN.{length, take, drop, length-append, length-drop}
 use lib.Seq.{length-take-le, take-all}
 use Rattle.xor.proofs.Laws.{and-left, and-right}
 use Rattle.grid.specs.Grid.{Board, columns, grid-rows, row-long, bit, array-good, arrays-good, last-word, all-words}
-use Rattle.grid.specs.Arrays.{Accepted, marked, Half-is-marked}
-use Rattle.grid.proofs.Facts.{Board-in, board-in, columns-half, columns-pos}
+use Rattle.grid.specs.Arrays.{marked, Half-is-marked}
+use Rattle.grid.proofs.Facts.{Board-in, board-in, board-accepted, columns-half, columns-pos}
 use Rattle.grid.proofs.Arrays.{half-is-marked}
 use Rattle.keys.specs.Keys.{Lent, header, packed, held-seeds, mark-bytes, body-from, glued, key-long, words-from, dealing, key, keys-from, stride}
 use Rattle.keys.proofs.Lists.{glue-words}
 use Rattle.keys.proofs.Numbers.{header-long}
 use Rattle.writer.specs.Written.{Wrote, written}
-use Rattle.writer.proofs.Laws.{wrote-then, wrote-more, wrote-length, part-kept, part-written, written-front, length-written}
-use Rattle.dealing.specs.Dealt.{lent, rule, key-front, dealt-word, dealt-keys, in-front}
+use Rattle.writer.proofs.Laws.{wrote-then, wrote-more, wrote-length, part-kept, part-written, written-front}
+use Rattle.dealing.specs.Dealt.{rule, key-front, dealt-word, dealt-keys, in-front}
 use Rattle.dealing.proofs.RowBytes.{packed-long}
-use Rattle.dealing.proofs.Lending.{Lent-in}
+use Rattle.dealing.proofs.Lending.{Lent-fits}
 use Rattle.dealing.proofs.LastWord.{dealt-word-long}
 
 -- LENGTHS
@@ -50,7 +50,7 @@ body-long (suc k) g b i a cs ss f h good enough seeds =
     let others = arrays-good k (suc g) b a (drop J cs) in
     let array-long : length array ≡ J = length-take-le J cs (omega arith) in
     let half = half-is-marked b (eqb g (a / b .wide)) array
-    (record { players-least = f .players-least; players-most = omega (arith, f .players-most); long = array-long; good = and-left this others good }) i h in
+    (record { board = board-accepted b f; long = array-long; good = and-left this others good }) i h in
     let held = held-long i array ss (omega arith) in
     let even = columns-half b f in
     let rest = body-long k (suc g) b i a (drop J cs) (drop (32 * J) ss) f h (and-right this others good) (rw length-drop (omega arith)) (rw length-drop (omega arith)) in
@@ -58,8 +58,8 @@ body-long (suc k) g b i a cs ss f h good enough seeds =
     length-append (packed (mark-bytes b) i array ++ held-seeds i array ss) (body-from k b i (drop J cs) (drop (32 * J) ss))
     ∙ rw (length-append (packed (mark-bytes b) i array) (held-seeds i array ss), marks, held, half, rest) (lengths J (mark-bytes b) (2 ^ (b .p - 2)) k even)
   where
-    lengths : (columns m x k : ℕ) → columns ≡ 2 * x → m + 32 * (columns / 2) + k * (m + 16 * columns) ≡ suc k * (m + 16 * columns)
-    lengths columns m x k e = let half : 32 * (columns / 2) ≡ 16 * columns = omega arith in rw half (omega arith)
+    lengths : (count m x k : ℕ) → count ≡ 2 * x → m + 32 * (count / 2) + k * (m + 16 * count) ≡ suc k * (m + 16 * count)
+    lengths count m x k e = let half : 32 * (count / 2) ≡ 16 * count = omega arith in rw half (omega arith)
 
 -- strings one behind another, and one more
 glued-snoc : (ws : List (List ℕ)) (w : List ℕ) → glued (ws ++ (w ∷ [])) ≡ glued ws ++ w
@@ -98,7 +98,7 @@ pub record Begun (b : Board) (l : Lent) (last start : ℕ) (old fronted begun : 
   pub front : Wrote 0 (key-front b 0 (l .arrays) (l .seeds) (l .words)) last old fronted
   pub word : Wrote last (dealt-word b (rule b) (l .point) (l .value) (l .seeds) (l .words)) start fronted begun
 
-module _ (b : Board) (l : Lent) (facts : Lent-in b l) where
+module _ (b : Board) (l : Lent) (facts : Lent-fits b l) where
   abbrev front : ℕ → List ℕ
   front i = key-front b i (l .arrays) (l .seeds) (l .words)
 

@@ -1,12 +1,12 @@
 -- The laws of the last word: a value between zeros, words and rows XORed one after another, and what these come to. Assumes nothing.
 use mathlib.Core.Path.{_≡_, refl, sym, ap, _∙_}
-use mathlib.Core.List.{List, [], _∷_, _++_}
+use mathlib.Core.List.{List, [], _++_}
 use Prim.Native.Nat.{ℕ, zero, suc, _+_, _*_, _-_, _/_, _%_, _≤_, _<_}
 use native.Mathlib.Omega.{arith}
-use native.Mathlib.Nat.{add-zero, mul-le-mul-right}
+use native.Mathlib.Nat.{mul-le-mul-right}
 use native.Mathlib.Numerals.{add-one}
 use lib.ListN.{length, getD, take, drop, replicate, length-append, length-drop, length-replicate, replicate-append-replicate}
-use lib.Seq.{take-at, drop-at, drop-drop, take-all, length-take-le}
+use lib.Seq.{take-at, drop-at, drop-drop, length-take-le}
 use Rattle.xor.specs.Xor.{xors, zeros}
 use Rattle.xor.proofs.Laws.{length-xors}
 use Rattle.grid.specs.Grid.{Board, columns, grid-rows, row-long, row-of, piece, xor-rows, xor-all}
@@ -14,8 +14,11 @@ use Rattle.grid.proofs.Facts.{Board-in, cell-in, cell-fits, grid-row-in}
 use Rattle.chacha20.specs.Expand.{expand}
 use Rattle.chacha20.proofs.Stream.{word-expand}
 use Rattle.keys.specs.Keys.{rows-from, words-from}
+use Rattle.keys.proofs.Lists.{words-at}
+use Rattle.keys.proofs.Dealing.{rows-at}
 use Rattle.writer.specs.Written.{written}
 use Rattle.dealing.specs.Dealt.{rule, dealt-word}
+use Rattle.dealing.proofs.Cuts.{rest-is}
 
 -- THE PIECE
 
@@ -68,13 +71,10 @@ seeds-turn k f ss xs so-far row-is is = is ∙ rw (so-far, row-is, add-one) (sym
 
 -- THE ROWS OF A GRID ROW, out of all rows
 
-rows-at : (n m : ℕ) (f : List ℕ → List ℕ) (ss : List ℕ) → m < n → getD (rows-from n f ss) m [] ≡ f (take 32 (drop (32 * m) ss))
-unfolding rows-from
-rows-at zero m f ss h = let none : ⊥ = omega arith in absurd none
-rows-at (suc n) zero f ss h = refl
-rows-at (suc n) (suc m) f ss h =
-    let next : 32 + 32 * m ≡ 32 * suc m = omega arith in
-    rows-at n m f (drop 32 ss) (omega arith) ∙ ap (λ (l : List ℕ). f (take 32 l)) (drop-drop (32 * m) 32 ss ∙ ap (λ (k : ℕ). drop k ss) next)
+row-at-place : (n m : ℕ) (f : List ℕ → List ℕ) (ss : List ℕ) → m < n → getD (rows-from n f ss) m [] ≡ f (take 32 (drop (32 * m) ss))
+row-at-place n m f ss h =
+    let place : m * 32 ≡ 32 * m = omega arith in
+    rows-at n m f ss h ∙ rw (words-at n 32 m ss h, place)
 
 xor-rows-are : (k j : ℕ) (b : Board) (n : ℕ) (f : List ℕ → List ℕ) (ss : List ℕ) (g : ℕ) (xs : List ℕ) → g * columns b + j + k ≤ n →
     xor-rows k j b (rows-from n f ss) g xs ≡ xor-all (rows-from k f (drop (32 * (g * columns b + j)) ss)) xs
@@ -83,7 +83,7 @@ xor-rows-are zero j b n f ss g xs h = refl
 xor-rows-are (suc k) j b n f ss g xs h =
     let m = g * columns b + j in
     let place : 32 * (g * columns b + suc j) ≡ 32 * m + 32 = omega arith in
-    let row = rows-at n m f ss (omega arith) in
+    let row = row-at-place n m f ss (omega arith) in
     xor-rows-are k (suc j) b n f ss g (xors xs (row-of b (rows-from n f ss) g j)) (omega arith)
     ∙ rw (place, row) (rw (drop-drop 32 (32 * m) ss))
 
@@ -118,10 +118,7 @@ module _ (b : Board) (f : Board-in b) (a : ℕ) (value seeds words : List ℕ) (
       words-out ≡ xor-all (words-from (J - 1) second words) piece-out →
       rows-out ≡ xor-all (rows-from J (expand third) (take (length seeds - 32 * (a / b .wide * J)) (drop (32 * (a / b .wide * J)) seeds))) words-out →
       rows-out ≡ dealt-word b (rule b) a value seeds words
-  word-steps first second third J e f g h p q r =
-      let all : take (length seeds - 32 * (a / b .wide * J)) (drop (32 * (a / b .wide * J)) seeds) ≡ drop (32 * (a / b .wide * J)) seeds =
-      take-all (length seeds - 32 * (a / b .wide * J)) (drop (32 * (a / b .wide * J)) seeds) (rw length-drop (omega arith)) in
-      word-made (rw e at p) (rw (h, f) at q) (rw (h, g) at (rw all at r))
+  word-steps first second third J e f g h p q r = word-made (rw e at p) (rw (h, f) at q) (rw (h, g) at (rw (rest-is (32 * (a / b .wide * J)) seeds) at r))
 
   -- a value between zeros has a row's length
   between-zeros : length (zeros (a % b .wide * b .w) ++ value ++ zeros (row-long b - (a % b .wide * b .w + length value))) ≡ row-long b

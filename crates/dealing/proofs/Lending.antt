@@ -1,19 +1,17 @@
 -- What Deal's refusals leave: an accepted board, a point on it, inputs of their lengths, and arrays of their parities. Assumes nothing.
-use mathlib.Core.Path.{_≡_, refl, sym, ap, _∙_}
-use mathlib.Core.Bool.{Bool, true, false, _&&_, not, cond}
-use mathlib.Core.List.{List}
-use Prim.Native.Nat.{ℕ, _*_, _-_, _≤_, _<_}
+use mathlib.Core.Path.{_≡_}
+use mathlib.Core.Bool.{true, _&&_, not}
+use Prim.Native.Nat.{_*_, _-_, _<_}
 use native.Mathlib.Omega.{arith}
 use lib.Dec.{leb, eqb}
 use lib.ListN.{length}
 use borrow.Author.Tests.{eqb-true, leb-false, not-false}
 use Rattle.xor.proofs.Laws.{and-left, and-right}
 use Rattle.grid.specs.Grid.{Board, columns, grid-rows, row-long, board-refusal, arrays-good}
-use Rattle.grid.proofs.Facts.{Board-in, board-in}
 use Rattle.keys.specs.Keys.{Lent, deal-refusal}
 use Rattle.keys.proofs.Accepted.{passed, last-passed, refusing}
 
-pub record Lent-in (b : Board) (l : Lent) : Type 0 where
+pub record Lent-fits (b : Board) (l : Lent) : Type 0 where
   pub accepted : board-refusal b ≡ 0
   pub point : l .point < b .n
   pub value : length (l .value) ≡ b .w
@@ -22,9 +20,9 @@ pub record Lent-in (b : Board) (l : Lent) : Type 0 where
   pub words : length (l .words) ≡ (columns b - 1) * row-long b
   pub parities : arrays-good (grid-rows b) 0 b (l .point) (l .arrays) ≡ true
 
-pub lent-in : (b : Board) (l : Lent) → deal-refusal b l ≡ 0 → Lent-in b l
+pub lent-fits : (b : Board) (l : Lent) → deal-refusal b l ≡ 0 → Lent-fits b l
 unfolding deal-refusal
-lent-in b l r =
+lent-fits b l r =
     let cells = grid-rows b * columns b in
     let v = eqb (length (l .value)) (b .w) in
     let c = eqb (length (l .arrays)) cells in

@@ -1,4 +1,5 @@
 -- The laws of dealing. Assumes nothing.
+pub mod Cuts
 pub mod RowBytes
 pub mod LastWord
 pub mod Lending

@@ -2,14 +2,14 @@
 use mathlib.Core.Path.{_≡_, refl, sym, ap, _∙_}
 use mathlib.Core.Bool.{Bool, true, false, cond}
 use mathlib.Core.List.{List, [], _∷_, _++_, append-assoc, append-nil}
-use Prim.Native.Nat.{ℕ, zero, suc, _+_, _*_, _-_, _/_, _%_, _^_, _≤_, _<_}
+use Prim.Native.Nat.{ℕ, zero, suc, _+_, _*_, _-_, _^_, _≤_, _<_}
 use native.Mathlib.Omega.{arith}
 use native.Mathlib.Nat.{lt-of-lt-of-le, mul-le-mul-right}
 use lib.Pow.{pow-mono}
 use native.Mathlib.Numerals.{add-one}
-use lib.ListN.{length, getD, take, drop, length-append, length-drop, drop-of-length-le, List·getD-eq-default}
+use lib.ListN.{length, getD, take, drop, length-append, drop-of-length-le, List·getD-eq-default}
 use lib.Dec.{leb}
-use lib.Seq.{drop-cons, drop-drop, take-all, length-take-le}
+use lib.Seq.{drop-cons, drop-drop}
 use borrow.Author.Tests.{leb-true, leb-false}
 use Rattle.grid.specs.Grid.{Board, columns, grid-rows, bit}
 use Rattle.grid.proofs.Facts.{Board-in, columns-most}
@@ -18,6 +18,7 @@ use Rattle.keys.proofs.Marks.{bit-nothing}
 use Rattle.writer.specs.Written.{Wrote}
 use Rattle.writer.proofs.Laws.{wrote-more}
 use Rattle.dealing.specs.Rows.{mark-digit, row-bytes}
+use Rattle.dealing.proofs.Cuts.{part-long, part-whole, rest-is, rest-long}
 
 -- MARKS PACKED
 
@@ -197,11 +198,7 @@ body-within k n b i cs ss h =
 pub row-here : (k J m player : ℕ) (b : Board) (arrays seeds : List ℕ) → J ≡ columns b → m ≡ mark-bytes b →
     row-bytes m player (take (k * J + J - k * J) (drop (k * J) arrays)) (take (length seeds - 32 * (k * J)) (drop (32 * (k * J)) seeds)) ≡ row-at k b player arrays seeds
 unfolding row-at
-row-here k J m player b arrays seeds e f =
-    let part : k * J + J - k * J ≡ J = omega arith in
-    let rest : take (length seeds - 32 * (k * J)) (drop (32 * (k * J)) seeds) ≡ drop (32 * (k * J)) seeds =
-    take-all (length seeds - 32 * (k * J)) (drop (32 * (k * J)) seeds) (rw length-drop (omega arith)) in
-    rw (part, rest, e, f)
+row-here k J m player b arrays seeds e f = rw (part-long (k * J) J, rest-is (32 * (k * J)) seeds, e, f)
 
 -- its array is there
 pub row-room : (k J n : ℕ) (b : Board) (arrays : List ℕ) → J ≡ columns b → n ≡ grid-rows b → k < n → length arrays ≡ grid-rows b * columns b → k * J + J ≤ length arrays
@@ -213,11 +210,7 @@ row-room k J n b arrays e f h long =
 pub row-seeds : (from J : ℕ) (arrays seeds : List ℕ) → from + J ≤ length arrays → length seeds ≡ 32 * length arrays →
     32 * length (take (from + J - from) (drop from arrays)) ≤ length (take (length seeds - 32 * from) (drop (32 * from) seeds))
 row-seeds from J arrays seeds h long =
-    let part : from + J - from ≡ J = omega arith in
-    let array : length (take J (drop from arrays)) ≡ J = length-take-le J (drop from arrays) (rw length-drop (omega arith)) in
-    let behind : length (take (length seeds - 32 * from) (drop (32 * from) seeds)) ≡ length seeds - 32 * from =
-    length-take-le (length seeds - 32 * from) (drop (32 * from) seeds) (rw length-drop (omega arith)) in
-    rw (part, array, behind) (omega arith)
+    rw (part-whole from J arrays h) (rest-long (32 * from) (32 * J) seeds (omega arith))
 
 -- a grid row has at most five bytes of marks
 pub mark-bytes-most : (b : Board) → Board-in b → mark-bytes b ≤ 100

@@ -1,5 +1,5 @@
 // The last correction word: the XOR of the piece, of the lent words, and of all rows of the point's grid row, so that all words and rows
-// there XOR to the piece.
+// there XOR to the piece. Assumes nothing.
 ghost use mathlib.Core.Path.{_≡_};
 ghost use mathlib.Core.List.{_++_};
 ghost use Prim.Native.Nat.{_+_, _*_, _-_, _≤_, _<_};

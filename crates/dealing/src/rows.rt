@@ -1,15 +1,16 @@
-// The grid rows of a key: a player's marks, packed, and the seeds of the marked columns.
+// The grid rows of a key: a player's marks, packed, and the seeds of the marked columns. Assumes nothing.
 ghost use mathlib.Core.Path.{_≡_};
 ghost use mathlib.Core.Bool.{cond};
 ghost use mathlib.Core.List.{[]};
-ghost use Prim.Native.Nat.{_+_, _*_, _/_, _≤_, _<_};
+ghost use Prim.Native.Nat.{_+_, _*_, _≤_, _<_};
 ghost use lib.ListN.{length, getD, drop};
 ghost use Rattle.grid.specs.Grid.{bit, board-refusal, columns, grid-rows};
 ghost use Rattle.grid.specs.Code.{board-of};
-ghost use Rattle.keys.specs.Keys.{packed-from, packed, held-seeds, body-from, mark-bytes};
+ghost use Rattle.keys.specs.Keys.{packed-from, packed, held-seeds, body-from};
 ghost use Rattle.dealing.specs.Rows.{mark-digit, row-bytes};
 ghost use Rattle.writer.specs.Written.{Wrote};
 use grid::board::Board;
+use keys::grid_row::mark_bytes;
 use writer::put;
 use writer::put_byte;
 
@@ -47,14 +48,6 @@ fn mark_byte(array: &[u8], from: usize, player: u32) -> u8
         byte = byte * 2 + mark_digit(array, from + place, player);
     }
     byte
-}
-
-// Bytes of marks in a grid row.
-fn mark_bytes(board: Board) -> usize
-    requires { ⌜ board-refusal (board-of board) ≡ 0 ⌝ }
-    ensures { λ r. ⌜ r ≡ mark-bytes (board-of board) ⌝ }
-{
-    (board.columns() + 7) / 8
 }
 
 // Writes the player's marks in an array, packed into `count` bytes.

@@ -1,19 +1,17 @@
 -- `dealing::deal_keys` meets its contract. The loop's invariant: behind player 0's key stand those of the players before this one. Assumes nothing.
-use mathlib.Core.Path.{_≡_, refl, sym, ap, _∙_, subst}
-use mathlib.Core.List.{List}
-use Prim.Native.Nat.{ℕ, _+_, _*_, _-_, _≤_, _<_}
+use mathlib.Core.Path.{_≡_, refl, _∙_}
+use Prim.Native.Nat.{_-_, _≤_}
 use native.Mathlib.Omega.{arith}
-use lib.ListN.{length, take, drop}
+use lib.ListN.{length}
 use denote.Ref.{now}
-use Rattle.grid.specs.Grid.{board, columns, grid-rows, row-long}
+use Rattle.grid.specs.Grid.{board}
 use Rattle.grid.specs.Code.{board-of}
 use Rattle.grid.proofs.Facts.{board-in}
-use Rattle.keys.specs.Keys.{Lent, keys-from, key-long}
+use Rattle.keys.specs.Keys.{Lent, keys-from}
 use Rattle.writer.specs.Written.{Wrote}
 use Rattle.writer.proofs.Laws.{wrote-nothing}
-use borrow.Author.Needs.{needs}
-use Rattle.dealing.specs.Dealt.{lent, rule, key-front, dealt-word}
-use Rattle.dealing.proofs.Lending.{Lent-in, lent-in}
+use Rattle.dealing.specs.Dealt.{lent, rule}
+use Rattle.dealing.proofs.Lending.{Lent-fits, lent-fits}
 use Rattle.dealing.proofs.KeyBytes.{Begun, front-room, word-room, next-front-room, again-room, turn, all-written}
 use Rattle.dealing.proofs.deal_keys.Statement.{statement}
 use Rattle.dealing.proofs.deal_keys.Tie as tie
@@ -36,8 +34,8 @@ abbrev lent-to : tie.Start Inv-loop μ-loop → Lent
 lent-to s = let a = s .args in lent (a .point) (now (a .value)) (now (a .arrays)) (now (a .seeds)) (now (a .words))
 
 -- nothing is refused
-facts : (s : tie.Start Inv-loop μ-loop) → Lent-in (board-of (s .args .board)) (lent-to s)
-facts s = lent-in (board-of (s .args .board)) (lent-to s) (s .pre .0)
+facts : (s : tie.Start Inv-loop μ-loop) → Lent-fits (board-of (s .args .board)) (lent-to s)
+facts s = lent-fits (board-of (s .args .board)) (lent-to s) (s .pre .0)
 
 -- player 0's key is written before the loop
 begun : (c : tie.After-slice-known3 Inv-loop μ-loop) → let s = c .before .before .before .before .before .before .before .before .before .before .before .before .before .before in

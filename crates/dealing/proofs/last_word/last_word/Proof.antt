@@ -1,15 +1,14 @@
 -- `dealing::last_word::last_word` meets its contract: piece, words, rows. Assumes nothing.
-use mathlib.Core.Path.{_≡_, refl, sym, ap, _∙_}
-use mathlib.Core.List.{List}
-use Prim.Native.Nat.{ℕ, _+_, _*_, _-_, _/_, _%_, _≤_, _<_}
+use mathlib.Core.Path.{_≡_, _∙_}
+use Prim.Native.Nat.{ℕ, _+_, _*_, _-_, _/_, _%_, _≤_}
 use native.Mathlib.Omega.{arith}
-use lib.ListN.{length, take, drop, length-drop}
-use lib.Seq.{length-take-le}
+use lib.ListN.{length}
 use denote.Ref.{now}
-use Rattle.grid.specs.Grid.{board, columns, grid-rows, row-long}
+use Rattle.grid.specs.Grid.{board, columns, row-long}
 use Rattle.grid.specs.Code.{board-of}
 use Rattle.grid.proofs.Facts.{board-in, columns-pos, grid-row-in}
-use Rattle.grid.proofs.Refusing.{row-most}
+use Rattle.grid.proofs.Sizes.{row-most}
+use Rattle.dealing.proofs.Cuts.{rest-long}
 use Rattle.dealing.proofs.LastWord.{cell-room, seeds-room, word-steps}
 use borrow.Author.Needs.{needs}
 use Rattle.dealing.proofs.last_word.last_word.Statement.{statement}
@@ -31,7 +30,9 @@ cell-there s =
 
 -- a word has at most 4,096 bytes
 word-small : (s : tie.Start) → length (now (s .args .out)) ≤ 4096
-word-small s = omega (arith, s .pre .5, row-most (board-of (s .args .board)) (s .pre .0))
+word-small s =
+    let b = board-of (s .args .board) in
+    omega (arith, s .pre .5, row-most b (board-in b (s .pre .0)))
 
 -- all seeds of the point's grid row are there
 seeds-there : (s : tie.Start) (J : ℕ) → J ≡ columns (board-of (s .args .board)) → let a = s .args in
@@ -45,10 +46,6 @@ seeds-there s J e =
 -- all lent words
 words-there : (J long : ℕ) (s : tie.Start) → let b = board-of (s .args .board) in J ≡ columns b → long ≡ row-long b → (J - 1) * long ≤ length (now (s .args .words))
 words-there J long s e f = rw (e, f) (omega (arith, s .pre .4))
-
--- what is left of a string behind a place
-behind : (from n : ℕ) (xs : List ℕ) → from + n ≤ length xs → n ≤ length (take (length xs - from) (drop from xs))
-behind from n xs h = rw (length-take-le (length xs - from) (drop from xs) (rw length-drop (omega arith))) (omega arith)
 
 columns-requires : tie.Need-columns-requires
 columns-requires c κs = search needs
@@ -103,7 +100,7 @@ xor-expanded-requires : tie.Need-xor-expanded-requires
 xor-expanded-requires c κs =
     let s = c .before .before .before .before .before .before .before .before .before .before .before .before .before .before .before .before .before .before in
     let J = c .before .before .before .before .before .before .before .before .before .before .before .before .before .columns in
-    (omega (arith, word-small s, c .before .before .before .before .before .xor-words .kept .0, c .before .before .before .before .before .before .before .before .before .put-piece .kept .0), behind _ (32 * J .result) (now (s .args .seeds)) (seeds-there s (J .result) (J .ensures)))
+    (omega (arith, word-small s, c .before .before .before .before .before .xor-words .kept .0, c .before .before .before .before .before .before .before .before .before .put-piece .kept .0), rest-long _ (32 * J .result) (now (s .args .seeds)) (seeds-there s (J .result) (J .ensures)))
 
 same-length : tie.Need-same-length
 same-length c = search needs

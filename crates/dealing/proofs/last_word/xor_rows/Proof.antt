@@ -1,15 +1,15 @@
 -- `dealing::last_word::xor_rows` meets its contract. The loop's invariant: the rows of the seeds before this one are XORed in. Assumes nothing.
-use mathlib.Core.Path.{_≡_, refl, sym, ap, _∙_, subst}
+use mathlib.Core.Path.{_≡_, refl, sym, _∙_, subst}
 use mathlib.Core.List.{List}
-use Prim.Native.Nat.{ℕ, _+_, _*_, _-_, _≤_, _<_}
+use Prim.Native.Nat.{ℕ, _+_, _*_, _-_, _≤_}
 use native.Mathlib.Omega.{arith}
-use lib.ListN.{length, take, drop, length-drop}
+use lib.ListN.{length, take, drop}
 use lib.Seq.{length-take-le, take-all}
 use denote.Ref.{now}
-use Rattle.xor.specs.Xor.{xors}
 use Rattle.grid.specs.Grid.{xor-all}
 use Rattle.chacha20.specs.Expand.{expand}
 use Rattle.keys.specs.Keys.{rows-from}
+use Rattle.dealing.proofs.Cuts.{part-long, part-whole}
 use Rattle.dealing.proofs.LastWord.{seeds-turn}
 use Rattle.dealing.proofs.last_word.xor_rows.Statement.{statement}
 use Rattle.dealing.proofs.last_word.xor_rows.Tie as tie
@@ -25,18 +25,11 @@ Inv-loop out₀ row₀ count seeds row-length column₀ out row column =
 abbrev μ-loop : tie.MeasureT-loop
 μ-loop out₀ row₀ count seeds row-length column₀ out row column = count - column
 
--- a seed as the code cuts it out
-seed-part : (n : ℕ) → n + 32 - n ≡ 32
-seed-part n = omega arith
-
-seed-whole : (from : ℕ) (seeds : List ℕ) → from + 32 ≤ length seeds → length (take (from + 32 - from) (drop from seeds)) ≡ 32
-seed-whole from seeds h = rw (seed-part from) (length-take-le 32 (drop from seeds) (rw length-drop (omega arith)))
-
 -- the row that is XORed in is the seed's
 row-is : (n long had : ℕ) (seeds row : List ℕ) (from : ℕ) → length row ≡ long → long ≡ n → had ≡ long →
     row ≡ expand had (take (from + 32 - from) (drop from seeds)) → take long row ≡ expand n (take 32 (drop from seeds))
 row-is n long had seeds row from same is kept made =
-    take-all long row (omega arith) ∙ made ∙ rw (seed-part from, kept, is)
+    take-all long row (omega arith) ∙ made ∙ rw (part-long from 32, kept, is)
 
 loop-holds : tie.Need-loop-holds Inv-loop μ-loop
 unfolding xor-all rows-from
@@ -61,7 +54,7 @@ expand-requires : tie.Need-expand-requires Inv-loop μ-loop
 expand-requires c κs =
     let a = c .before .before .before .before .before .before .before .args in
     let l = c .before .before .before .loop in
-    (seed-whole (32 * l .column) (now (a .seeds)) (omega arith), omega arith)
+    (part-whole (32 * l .column) 32 (now (a .seeds)) (omega arith), omega arith)
 
 slice-reshare-prefix-xor-into : tie.Need-slice-reshare-prefix-xor-into Inv-loop μ-loop
 slice-reshare-prefix-xor-into c = omega arith

@@ -1,15 +1,13 @@
 -- `dealing::last_word::xor_words` meets its contract. The loop's invariant: the words before this one are XORed in. Assumes nothing.
-use mathlib.Core.Path.{_≡_, refl, sym, ap, _∙_, subst}
-use mathlib.Core.List.{List}
-use Prim.Native.Nat.{ℕ, _+_, _*_, _-_, _≤_, _<_}
+use mathlib.Core.Path.{_≡_, refl, sym, _∙_, subst}
+use Prim.Native.Nat.{ℕ, _+_, _*_, _-_, _≤_}
 use native.Mathlib.Omega.{arith}
 use native.Mathlib.Nat.{mul-le-mul-right}
-use lib.ListN.{length, take, drop, length-drop}
-use lib.Seq.{length-take-le}
+use lib.ListN.{length}
 use denote.Ref.{now}
-use Rattle.xor.specs.Xor.{xors}
 use Rattle.grid.specs.Grid.{xor-all}
 use Rattle.keys.specs.Keys.{words-from}
+use Rattle.dealing.proofs.Cuts.{part-long, part-whole}
 use Rattle.dealing.proofs.LastWord.{words-turn}
 use Rattle.dealing.proofs.last_word.xor_words.Statement.{statement}
 use Rattle.dealing.proofs.last_word.xor_words.Tie as tie
@@ -23,13 +21,6 @@ Inv-loop out₀ count words row-length word₀ out word =
 
 abbrev μ-loop : tie.MeasureT-loop
 μ-loop out₀ count words row-length word₀ out word = count - word
-
--- a word's length as the code counts it
-word-part : (from n : ℕ) → from + n - from ≡ n
-word-part from n = omega arith
-
-word-whole : (from n : ℕ) (words : List ℕ) → from + n ≤ length words → length (take (from + n - from) (drop from words)) ≡ n
-word-whole from n words h = rw (word-part from n) (length-take-le n (drop from words) (rw length-drop (omega arith)))
 
 -- the next word is there
 room : (c : tie.In-loop Inv-loop μ-loop) → let a = c .before .before .before .before .args in
@@ -61,7 +52,7 @@ xor-into-requires : tie.Need-xor-into-requires Inv-loop μ-loop
 xor-into-requires c κs =
     let a = c .before .before .before .before .before .before .args in
     let l = c .before .before .before .loop in
-    l .inv .1 ∙ sym (word-whole (l .word * length (now (a .out))) (length (now (a .out))) (now (a .words)) (room (c .before .before)))
+    l .inv .1 ∙ sym (part-whole (l .word * length (now (a .out))) (length (now (a .out))) (now (a .words)) (room (c .before .before)))
 
 add-word : tie.Need-add-word Inv-loop μ-loop
 add-word c = omega arith
@@ -75,7 +66,7 @@ loop-again c =
     let l = c .before .before .before .before .before .before .loop in
     let n = length (now (a .out)) in
     let added = c .before .before .xor-into in
-    (omega arith, added .kept .0 ∙ l .inv .1, words-turn (l .word) n (now (a .words)) (now (a .out)) (l .inv .2) (rw (word-part (l .word * n) n) at (added .ensures)))
+    (omega arith, added .kept .0 ∙ l .inv .1, words-turn (l .word) n (now (a .words)) (now (a .out)) (l .inv .2) (rw (part-long (l .word * n) n) at (added .ensures)))
 
 same-length : tie.Need-same-length Inv-loop μ-loop
 same-length c = c .before .loop .inv .1

@@ -1,10 +1,8 @@
 -- `dealing::rows::put_rows` meets its contract. The loop's invariant: the grid rows before this one are written. Assumes nothing.
-use mathlib.Core.Path.{_≡_, refl, sym, ap, _∙_, subst}
-use mathlib.Core.List.{List}
+use mathlib.Core.Path.{_≡_, refl, _∙_, subst}
 use Prim.Native.Nat.{ℕ, _+_, _*_, _-_, _≤_, _<_}
 use native.Mathlib.Omega.{arith}
-use native.Mathlib.Nat.{mul-le-mul-right}
-use lib.ListN.{length, take, drop}
+use lib.ListN.{length}
 use denote.Ref.{now}
 use Rattle.grid.specs.Grid.{columns, grid-rows}
 use Rattle.grid.specs.Code.{board-of}
@@ -13,13 +11,12 @@ use Rattle.keys.specs.Keys.{body-from, mark-bytes}
 use Rattle.writer.specs.Written.{Wrote}
 use Rattle.writer.proofs.Laws.{wrote-nothing}
 use borrow.Author.Needs.{needs}
-use Rattle.dealing.specs.Rows.{row-bytes}
-use Rattle.dealing.proofs.RowBytes.{row-at, row-here, row-room, row-seeds, mark-bytes-most, body-within, rows-turn}
+use Rattle.dealing.proofs.RowBytes.{row-here, row-room, row-seeds, mark-bytes-most, body-within, rows-turn}
 use Rattle.dealing.proofs.rows.put_rows.Statement.{statement}
 use Rattle.dealing.proofs.rows.put_rows.Tie as tie
 use Rattle.dealing.proofs.rows.put_rows.Reads as reads
 use Rattle.dealing.proofs.rows.put_rows.Lts as lts
-use Rattle.dealing.proofs.rows.mark_bytes.Reads as mark-bytes-reads
+use Rattle.keys.proofs.grid_row.mark_bytes.Reads as mark-bytes-reads
 use Rattle.dealing.proofs.rows.put_row.Reads as put-row-reads
 use Rattle.grid.proofs.board.Board.columns.Reads as columns-reads
 use Rattle.grid.proofs.board.Board.grid_rows.Reads as grid-rows-reads
