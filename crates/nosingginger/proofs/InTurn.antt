@@ -2,7 +2,7 @@
 -- left where none fits. Assumes nothing.
 use mathlib.Core.Path.{_≡_, refl, sym, ap, _∙_, subst}
 use mathlib.Core.Bool.{Bool, true, false, _&&_, not, cond}
-use mathlib.Core.List.{List}
+use mathlib.Core.List.{List, _++_}
 use Prim.Native.Nat.{ℕ, zero, suc, _+_, _*_, _-_, _≤_, _<_}
 use native.Mathlib.Nat.{mul-le-mul-right}
 use native.Mathlib.Numerals.{add-one}
@@ -24,8 +24,8 @@ use Rattle.keys.proofs.Accepted.{passed, last-passed, refusing, key-accepted}
 use Rattle.keys.proofs.Checks.{long-is}
 use Rattle.keys.proofs.Reading.{heading-says, heading-none}
 use Rattle.nosingginger.specs.Entry.{or-else}
-use Rattle.nosingginger.specs.JoinKeys.{numbers-refusal, head-refusal, same-board, place-refusal, places-refusal, keys-refusal}
-use Rattle.nosingginger.proofs.Answering.{first-fits, next-fits}
+use Rattle.nosingginger.specs.JoinKeys.{numbers-refusal, head-refusal, same-board, place-refusal, places-refusal, keys-refusal, joined-table, Join-keys-says}
+use Rattle.nosingginger.proofs.Answering.{put-number, put-done, first-fits, next-fits, in-front-part}
 
 -- a number, or else the next: where neither fits
 pub neither : (a b : ℕ) → or-else a b ≡ 0 → (a ≡ 0) × (b ≡ 0)
@@ -296,3 +296,20 @@ module _ (bs : List ℕ) (h : Header) (good : head-in bs .good ≡ true) (board-
 
           pub keys-none : h .board .positions * h .board .«value_bytes» ≤ room → 0 ≡ keys-refusal bs room
           keys-none z = sym (last ∙ rw (le-ltb room (h .board .positions * h .board .«value_bytes») z))
+
+-- WHAT JOIN KEYS SAYS
+
+module _ (bs o : List ℕ) where
+  pub join-number-refused : Heading.Broken ≡ heading-in bs → Join-keys-says bs 10 o o
+  unfolding Join-keys-says
+  join-number-refused e = put-number _ 10 _ o (keys-number bs (length o) e) (λ z. omega arith)
+
+  pub join-refused : (r : ℕ) → r ≡ keys-refusal bs (length o) → (r ≡ 0 → ⊥) → Join-keys-says bs r o o
+  unfolding Join-keys-says
+  join-refused r e h = put-number _ r _ o (sym e) h
+
+  pub join-done : (h : Header) (last : List ℕ) (k : ℕ) → head-in bs .board ≡ board-of (h .board) → keys-refusal bs (length o) ≡ 0 → length last ≡ k
+      → last ≡ joined-table (h .board .players) (board-of (h .board)) bs → Join-keys-says bs 0 o (last ++ drop k o)
+  unfolding Join-keys-says board
+  join-done h last k board-is none long e =
+      put-done _ _ 0 o (last ++ drop k o) none refl (in-front-part _ last o k long (e ∙ rw board-is))

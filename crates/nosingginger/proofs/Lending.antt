@@ -1,20 +1,23 @@
--- The chain of Deal's numbers 1 to 8: what each test answers, and what is left where none fits. Assumes nothing.
+-- Deal: the chain of its numbers, what each test answers and what is left where none fits, and what is written. Assumes nothing.
 use mathlib.Core.Path.{_≡_, refl, sym, ap, _∙_}
 use mathlib.Core.Bool.{Bool, true, false, _&&_, not, cond}
 use mathlib.Core.List.{List}
 use Prim.Native.Nat.{ℕ, _*_, _-_, _≤_, _<_}
 use native.Mathlib.Nat.{mul-le-mul}
 use native.Mathlib.Omega.{arith}
-use borrow.Author.Tests.{eq-eqb, ne-eqb, le-leb, lt-leb, eqb-true, not-true, not-false}
-use lib.Dec.{eqb, leb}
+use borrow.Author.Tests.{eq-eqb, ne-eqb, le-leb, lt-leb, le-ltb, lt-ltb, eqb-true, not-true, not-false}
+use lib.Dec.{eqb, leb, ltb}
 use lib.ListN.{length}
 use Rattle.xor.proofs.Laws.{and-left, and-right}
-use Rattle.grid.specs.Grid.{Board, board-refusal, columns, grid-rows, row-long, arrays-good}
+use Rattle.grid.specs.Grid.{Board, board, board-refusal, columns, grid-rows, row-long, arrays-good}
 use Rattle.grid.proofs.Facts.{board-in}
 use Rattle.grid.proofs.Sizes.{row-most, columns-few, arrays-most}
-use Rattle.keys.specs.Keys.{Lent, deal-refusal}
+use Rattle.keys.specs.Keys.{Lent, key-long, deal-refusal}
 use Rattle.keys.proofs.Accepted.{passed, refusing}
+use Rattle.dealing.specs.Dealt as Dealt
+use Rattle.nosingginger.specs.Entry.{or-else, in-front, lent, rule, Deal-says}
 use Rattle.nosingginger.specs.Lent.{lent-fits}
+use Rattle.nosingginger.proofs.Answering.{put-number, put-done, first-fits, next-fits}
 
 -- THE LENGTHS
 
@@ -91,3 +94,25 @@ module _ (b : Board) (fine : board-refusal b ≡ 0) where
   words-most {c} e f =
       let few : c - 1 ≤ 32 = omega (arith, columns-few b (board-in b fine)) in
       rw f (mul-le-mul few (row-most b (board-in b fine)))
+
+-- WHAT DEAL SAYS
+
+module _ (p n m w a : ℕ) (v cs ss ws o : List ℕ) where
+  pub deal-refused : (r : ℕ) → r ≡ deal-refusal (board p n m w) (lent a v cs ss ws) → (r ≡ 0 → ⊥) → Deal-says p n m w a v cs ss ws r o o
+  unfolding Deal-says
+  deal-refused r e h =
+      put-number _ r _ o (first-fits (deal-refusal (board p n m w) (lent a v cs ss ws)) _ (λ q. h (e ∙ q)) ∙ sym e) h
+
+  module _ (none : deal-refusal (board p n m w) (lent a v cs ss ws) ≡ 0) (long : ℕ) (k : long ≡ key-long (board p n m w)) where
+    room-number : or-else (deal-refusal (board p n m w) (lent a v cs ss ws)) (cond (ltb (length o) (p * key-long (board p n m w))) 9 0)
+        ≡ cond (ltb (length o) (p * long)) 9 0
+    room-number = next-fits (deal-refusal (board p n m w) (lent a v cs ss ws)) _ none ∙ rw k
+
+    pub deal-room-refused : length o < p * long → Deal-says p n m w a v cs ss ws 9 o o
+    unfolding Deal-says
+    deal-room-refused h = put-number _ 9 _ o (room-number ∙ rw (lt-ltb (length o) (p * long) h)) (λ z. omega arith)
+
+    pub dealt : (z : List ℕ) → p * long ≤ length o → z ≡ Dealt.in-front (Dealt.dealt-keys (board p n m w) (Dealt.lent a v cs ss ws)) o
+        → Deal-says p n m w a v cs ss ws 0 o z
+    unfolding Deal-says Dealt.in-front in-front Dealt.dealt-keys Dealt.rule rule board lent
+    dealt z h e = put-done _ _ 0 o z (room-number ∙ rw (le-ltb (length o) (p * long) h)) refl e

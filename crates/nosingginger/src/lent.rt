@@ -1,16 +1,18 @@
-// The refusals of Deal that speak of what it is lent: 1 to 8, in their order.
+// Dealing: the refusals 1 to 9 in their order, and the keys of all players.
 use crate::refusals::ACCEPTED;
 use crate::refusals::REFUSED_ARRAYS;
 use crate::refusals::REFUSED_LENT;
 use crate::refusals::REFUSED_POINT;
+use crate::refusals::REFUSED_ROOM;
 use grid::array_check::arrays_good;
 use grid::board::Board;
 use keys::grid_row::SEED_BYTES;
+use keys::length::key_length;
 ghost use mathlib.Core.Path.{_≡_};
 ghost use Rattle.grid.specs.Grid.{board-refusal};
 ghost use Rattle.grid.specs.Code.{board-of};
 ghost use Rattle.keys.specs.Keys.{deal-refusal};
-ghost use Rattle.nosingginger.specs.Entry.{lent};
+ghost use Rattle.nosingginger.specs.Entry.{lent, Deal-says};
 ghost use Rattle.nosingginger.specs.Lent.{lent-fits};
 
 // Whether value, arrays, seeds and words have the lengths that the board asks.
@@ -33,7 +35,7 @@ fn lent_fits(board: Board, value: usize, arrays: usize, seeds: usize, words: usi
 }
 
 // 1 to 8: the first that fits, or 0.
-pub fn deal_refusal(
+fn deal_refusal(
     board: Board,
     point: u32,
     value: &[u8],
@@ -56,5 +58,37 @@ pub fn deal_refusal(
     if !arrays_good(board, point, arrays) {
         return REFUSED_ARRAYS;
     }
+    ACCEPTED
+}
+
+// DEAL: 1 to 9 in their order; writes the keys of all players one after another, player 0 first, and nothing before all is asked.
+pub fn deal(
+    players: u32,
+    positions: u32,
+    width: u32,
+    value_bytes: u32,
+    point: u32,
+    value: &[u8],
+    arrays: &[u8],
+    seeds: &[u8],
+    words: &[u8],
+    keys: &mut [u8],
+) -> u32
+    ensures { λ r. ⌜ Deal-says players positions width «value_bytes» point (now (value .entry)) (now (arrays .entry)) (now (seeds .entry)) (now (words .entry)) r (now (keys .entry)) (now (keys .exit)) ⌝ }
+{
+    let board = Board {
+        players,
+        positions,
+        width,
+        value_bytes,
+    };
+    let refusal = deal_refusal(board, point, value, arrays, seeds, words);
+    if refusal != ACCEPTED {
+        return refusal;
+    }
+    if keys.len() < players as usize * key_length(board) {
+        return REFUSED_ROOM;
+    }
+    dealing::deal_keys(board, point, value, arrays, seeds, words, keys);
     ACCEPTED
 }

@@ -1,13 +1,13 @@
 // The operations that a board and a phone call. None requires anything: each answers document 01's number, the first that fits, and its
 // contract fixes the number, the value and every lent byte, of refused calls too. A refused call changes nothing that is lent.
-ghost use Rattle.nosingginger.specs.Entry.{Long-says, Open-one-says, Open-all-says, Join-says, Expand-says, Width-says, Sensor-says};
-ghost use Rattle.nosingginger.specs.JoinKeys.{Join-keys-says};
+ghost use Rattle.nosingginger.specs.Entry.{Long-says, Join-says, Expand-says, Width-says, Sensor-says};
 ghost use mathlib.Core.Path.{_≡_};
 
 mod lent;
 mod places;
 pub mod refusals;
 mod shares;
+mod square;
 mod tables;
 
 use grid::board::Board;
@@ -16,21 +16,20 @@ use grid::board::MOST_PLAYERS;
 use grid::board::MOST_POSITIONS;
 use grid::board::within;
 use grid::sensor::SENSORS;
+pub use lent::deal;
+pub use square::open_one;
+pub use tables::join_keys;
+pub use tables::open_all;
 pub use keys::check::KeyCheck;
 pub use keys::check::check_key;
 use keys::grid_row::SEED_BYTES;
-use keys::reader::Heading;
-use keys::reader::header_in;
 pub use keys::held::held_seed;
 pub use keys::reader::Header;
 use refusals::ACCEPTED;
 use refusals::REFUSED_EXPANSION;
 use refusals::REFUSED_LENT;
-use refusals::REFUSED_NUMBER;
 use refusals::REFUSED_PLAYERS;
-use refusals::REFUSED_POSITION;
 use refusals::REFUSED_POSITIONS;
-use refusals::REFUSED_ROOM;
 use refusals::REFUSED_SENSOR;
 
 // The most bytes of a row.
@@ -115,41 +114,6 @@ pub fn expand_seed(seed: &[u8], output: &mut [u8]) -> u32
     ACCEPTED
 }
 
-// OPEN ONE: Check key's numbers, 14, 9; writes the share of one square, from the part of the key that begins at its grid row.
-pub fn open_one(key: &[u8], position: u32, output: &mut [u8]) -> u32
-    ensures { λ r. ⌜ Open-one-says (now (key .entry)) position r (now (output .entry)) (now (output .exit)) ⌝ }
-{
-    let header = match check_key(key) {
-        KeyCheck::Refused(number) => return number,
-        KeyCheck::Accepted(header) => header,
-    };
-    let board = header.board;
-    if board.positions <= position {
-        return REFUSED_POSITION;
-    }
-    if output.len() < board.value_bytes as usize {
-        return REFUSED_ROOM;
-    }
-    opening::open_square(key, board, position, output);
-    ACCEPTED
-}
-
-// OPEN ALL: Check key's numbers, 9; writes the full table.
-pub fn open_all(key: &[u8], output: &mut [u8]) -> u32
-    ensures { λ r. ⌜ Open-all-says (now (key .entry)) r (now (output .entry)) (now (output .exit)) ⌝ }
-{
-    let header = match check_key(key) {
-        KeyCheck::Refused(number) => return number,
-        KeyCheck::Accepted(header) => header,
-    };
-    let board = header.board;
-    if output.len() < (board.positions * board.value_bytes) as usize {
-        return REFUSED_ROOM;
-    }
-    opening::open_table(key, board, output);
-    ACCEPTED
-}
-
 // JOIN SHARES: 1, 4, 7, 9; writes the XOR of the shares of all players at one square.
 pub fn join_shares(players: u32, value_bytes: u32, shares: &[u8], output: &mut [u8]) -> u32
     ensures { λ r. ⌜ Join-says players «value_bytes» (now (shares .entry)) r (now (output .entry)) (now (output .exit)) ⌝ }
@@ -160,22 +124,5 @@ pub fn join_shares(players: u32, value_bytes: u32, shares: &[u8], output: &mut [
     }
     let share = value_bytes as usize;
     shares::joined(players as usize, shares, &mut output[..share]);
-    ACCEPTED
-}
-
-// JOIN KEYS: for the first key 10, 1 to 5, 11; 12; then for each key in turn its 10, 1 to 5, 11, 15, 13; last 9. Writes the XOR of all tables.
-pub fn join_keys(keys: &[u8], output: &mut [u8]) -> u32
-    ensures { λ r. ⌜ Join-keys-says (now (keys .entry)) r (now (output .entry)) (now (output .exit)) ⌝ }
-{
-    let Heading::Whole(header, _) = header_in(keys) else {
-        return REFUSED_NUMBER;
-    };
-    let refusal = places::keys_refusal(header, keys, output.len());
-    if refusal != ACCEPTED {
-        return refusal;
-    }
-    let board = header.board;
-    let table = (board.positions * board.value_bytes) as usize;
-    tables::joined_tables(board, keys, &mut output[..table]);
     ACCEPTED
 }
