@@ -1,4 +1,4 @@
-// The header of a key: its five numbers in groups of seven bits.
+// The header of a key: its five numbers in groups of seven bits. Assumes nothing.
 ghost use Prim.Native.Nat.{_+_, _≤_, _<_};
 ghost use lib.ListN.{length};
 ghost use Rattle.grid.specs.Grid.{board};

@@ -1,5 +1,5 @@
 // The last correction word: the XOR of the piece, of the lent words, and of all rows of the point's grid row, so that all words and rows
-// there XOR to the piece.
+// there XOR to the piece. Assumes nothing.
 ghost use mathlib.Core.Path.{_≡_};
 ghost use mathlib.Core.List.{_++_};
 ghost use Prim.Native.Nat.{_+_, _*_, _-_, _≤_, _<_};
@@ -54,6 +54,16 @@ fn xor_rows(out: &mut [u8], row: &mut [u8], count: usize, seeds: &[u8])
     }
 }
 
+// The same, by way of one scratch row: no row is longer than 4,096 bytes.
+fn xor_expanded(out: &mut [u8], count: usize, seeds: &[u8])
+    requires { ⌜ (length (now out) ≤ 4096) × (32 * count ≤ length (now seeds)) ⌝ }
+    ensures { λ r. ⌜ now (out .exit) ≡ xor-all (rows-from count (expand (length (now (out .entry)))) (now (seeds .entry))) (now (out .entry)) ⌝ }
+{
+    let row_length = out.len();
+    let mut row = [0u8; 4096];
+    xor_rows(out, &mut row[..row_length], count, seeds);
+}
+
 // Fills `out` with the last word.
 fn last_word(out: &mut [u8], board: Board, point: u32, value: &[u8], seeds: &[u8], words: &[u8])
     requires { ⌜ (board-refusal (board-of board) ≡ 0) × (point < board .positions) × (length (now value) ≡ board .«value_bytes») × (length (now seeds) ≡ 32 * (grid-rows (board-of board) * columns (board-of board))) × (length (now words) ≡ (columns (board-of board) - 1) * row-long (board-of board)) × (length (now out) ≡ row-long (board-of board)) ⌝ }
@@ -64,9 +74,7 @@ fn last_word(out: &mut [u8], board: Board, point: u32, value: &[u8], seeds: &[u8
     put_piece(out, cell, value);
     xor_words(out, columns - 1, words);
     let from = 32 * ((point / board.width) as usize * columns);
-    let row_length = board.row_length();
-    let mut row = [0u8; 4096];
-    xor_rows(out, &mut row[..row_length], columns, &seeds[from..]);
+    xor_expanded(out, columns, &seeds[from..]);
 }
 
 // Writes the last word from place `at` on.

@@ -1,8 +1,8 @@
-// The grid rows of a key: a player's marks, packed, and the seeds of the marked columns.
+// The grid rows of a key: a player's marks, packed, and the seeds of the marked columns. Assumes nothing.
 ghost use mathlib.Core.Path.{_≡_};
 ghost use mathlib.Core.Bool.{cond};
 ghost use mathlib.Core.List.{[]};
-ghost use Prim.Native.Nat.{_+_, _*_, _/_, _≤_, _<_};
+ghost use Prim.Native.Nat.{_+_, _*_, _≤_, _<_};
 ghost use lib.ListN.{length, getD, drop};
 ghost use Rattle.grid.specs.Grid.{bit, board-refusal, columns, grid-rows};
 ghost use Rattle.grid.specs.Code.{board-of};
@@ -10,6 +10,7 @@ ghost use Rattle.keys.specs.Keys.{packed-from, packed, held-seeds, body-from};
 ghost use Rattle.dealing.specs.Rows.{mark-digit, row-bytes};
 ghost use Rattle.writer.specs.Written.{Wrote};
 use grid::board::Board;
+use keys::grid_row::mark_bytes;
 use writer::put;
 use writer::put_byte;
 
@@ -120,7 +121,6 @@ pub fn put_rows(
 {
     let columns = board.columns();
     let grid_rows = board.grid_rows();
-    let mark_bytes = (columns + 7) / 8;
     let mut next = at;
     let mut grid_row: usize = 0;
     while grid_row < grid_rows {
@@ -131,7 +131,7 @@ pub fn put_rows(
             out,
             next,
             player,
-            mark_bytes,
+            mark_bytes(board),
             &arrays[from..end],
             &seeds[seed..],
         );

@@ -3,6 +3,9 @@ pub mod Answering
 pub mod Joining
 pub mod Sizes
 pub mod InTurn
+pub mod Lending
+pub mod Squares
+pub mod JoinedTables
 pub mod Marked
 pub mod Putting
 pub mod OpenedKey

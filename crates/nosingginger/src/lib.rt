@@ -3,9 +3,12 @@
 ghost use Rattle.nosingginger.specs.Entry.{Long-says, Join-says, Expand-says, Width-says, Sensor-says};
 ghost use mathlib.Core.Path.{_≡_};
 
+mod lent;
 mod places;
 pub mod refusals;
 mod shares;
+mod square;
+mod tables;
 
 use grid::board::Board;
 use grid::board::LEAST_PLAYERS;
@@ -13,6 +16,10 @@ use grid::board::MOST_PLAYERS;
 use grid::board::MOST_POSITIONS;
 use grid::board::within;
 use grid::sensor::SENSORS;
+pub use lent::deal;
+pub use square::open_one;
+pub use tables::join_keys;
+pub use tables::open_all;
 pub use keys::check::KeyCheck;
 pub use keys::check::check_key;
 use keys::grid_row::SEED_BYTES;
@@ -66,7 +73,8 @@ pub fn key_length(players: u32, positions: u32, width: u32, value_bytes: u32) ->
     if refusal != ACCEPTED {
         return refused(refusal);
     }
-    accepted(keys::length::key_length(board) as u32)
+    let length = keys::length::key_length(board) as u32;
+    accepted(length)
 }
 
 // CHOOSE WIDTH: 1, 2; the least width whose square is at least positions times columns, or 256.
