@@ -6,14 +6,12 @@ use nosingginger::deal;
 use nosingginger::key_length;
 use nosingginger::open_all;
 use nosingginger::open_one;
+use nosingginger::refusals::REFUSED_ROOM;
 use writer::clear;
 use xor::xor_into;
 ghost use mathlib.Core.Path.{_≡_};
 ghost use lib.ListN.{length};
 ghost use Rattle.witness.specs.Witness.{Opens-each, tables-joined, Shows-the-piece, Both-ways};
-
-// The number of a buffer that is too short.
-const REFUSED_ROOM: u32 = 9;
 
 // Fills `joined` with the XOR of the tables of all keys. Each key is opened into `table`, whose bytes afterwards count for nothing.
 fn join_tables(keys: &[u8], key_bytes: usize, players: usize, table: &mut [u8], joined: &mut [u8])
