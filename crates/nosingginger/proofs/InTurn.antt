@@ -299,6 +299,11 @@ module _ (bs : List ℕ) (h : Header) (good : head-in bs .good ≡ true) (board-
 
 -- WHAT JOIN KEYS SAYS
 
+pub heading-facts : (ks : List ℕ) (h : Header) (next : Reader) → Heading.Whole h next ≡ heading-in ks
+    → (head-in ks .good ≡ true) × (head-in ks .board ≡ board-of (h .board)) × (head-in ks .player ≡ h .player)
+heading-facts ks h next e =
+    let read = heading-says ks h next e in (ap (λ x. x .good) read, ap (λ x. x .board) read, ap (λ x. x .player) read)
+
 module _ (bs o : List ℕ) where
   pub join-number-refused : Heading.Broken ≡ heading-in bs → Join-keys-says bs 10 o o
   unfolding Join-keys-says
