@@ -192,8 +192,7 @@ place-accepted b i ks none long =
     let same : h .board ≡ b = boards-same (h .board) b (and-left (same-board (h .board) b) (eqb (h .player) i) (not-false _ (here .0))) in
     let marks = last-passed (marks-good (grid-rows b) b (h .rest)) 13 (omega arith) (here .1) in
     let board = board-in (h .board) (own .0) in
-    let small : h .player < 128 = omega (arith, own .1, board .players-most) in
-    (
+    let small : h .player < 128 = omega (arith, own .1, board .players-most) in (
       key-accepted ks
           (record {
             header-good = not-false (h .good) (read .0);
@@ -264,8 +263,7 @@ module _ (bs : List ℕ) (h : Header) (good : head-in bs .good ≡ true) (board-
         let asked = h .board .players * key-long (board-of (h .board)) in
         let long = passed (not (eqb (length bs) asked)) 12 _ (λ t n. omega arith) (own .1) in
         let each = neither (places-refusal (h .board .players) 0 (board-of (h .board)) bs) _ (long .1) in
-        let last = passed (ltb room (h .board .positions * h .board .«value_bytes»)) 9 0 (λ t n. omega arith) (each .1) in
-        (
+        let last = passed (ltb room (h .board .positions * h .board .«value_bytes»)) 9 0 (λ t n. omega arith) (each .1) in (
           numbers-fine (board-of (h .board)) (h .player) (own .0) .0,
           eqb-true (length bs) asked (not-false (eqb (length bs) asked) (long .0)),
           each .0,
@@ -298,6 +296,11 @@ module _ (bs : List ℕ) (h : Header) (good : head-in bs .good ≡ true) (board-
           keys-none z = sym (last ∙ rw (le-ltb room (h .board .positions * h .board .«value_bytes») z))
 
 -- WHAT JOIN KEYS SAYS
+
+pub heading-facts : (ks : List ℕ) (h : Header) (next : Reader) → Heading.Whole h next ≡ heading-in ks
+    → (head-in ks .good ≡ true) × (head-in ks .board ≡ board-of (h .board)) × (head-in ks .player ≡ h .player)
+heading-facts ks h next e =
+    let read = heading-says ks h next e in (ap (λ x. x .good) read, ap (λ x. x .board) read, ap (λ x. x .player) read)
 
 module _ (bs o : List ℕ) where
   pub join-number-refused : Heading.Broken ≡ heading-in bs → Join-keys-says bs 10 o o

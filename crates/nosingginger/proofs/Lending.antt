@@ -21,32 +21,37 @@ use Rattle.nosingginger.proofs.Answering.{put-number, put-done, first-f
 
 -- THE LENGTHS
 
+pub cells-are : (b : Board) {r c : ℕ} → r ≡ grid-rows b → c ≡ columns b → r * c ≡ grid-rows b * columns b
+cells-are b e f = rw (e, f)
+
 module _ (b : Board) (v cs ss ws : ℕ) where
   pub other-value : (v ≡ b .w → ⊥) → false ≡ lent-fits b v cs ss ws
   unfolding lent-fits
   other-value h = rw (ne-eqb v (b .w) h)
 
-  pub other-arrays : v ≡ b .w → (cs ≡ grid-rows b * columns b → ⊥) → false ≡ lent-fits b v cs ss ws
-  unfolding lent-fits
-  other-arrays e h = rw (eq-eqb v (b .w) e, ne-eqb cs (grid-rows b * columns b) h)
+  module _ (cells : ℕ) (k : cells ≡ grid-rows b * columns b) (value : v ≡ b .w) where
+    pub other-arrays : (cs ≡ cells → ⊥) → false ≡ lent-fits b v cs ss ws
+    unfolding lent-fits
+    other-arrays h = rw (eq-eqb v (b .w) value, ← k, ne-eqb cs cells h)
 
-  pub other-seeds : v ≡ b .w → cs ≡ grid-rows b * columns b → (ss ≡ 32 * (grid-rows b * columns b) → ⊥) → false ≡ lent-fits b v cs ss ws
-  unfolding lent-fits
-  other-seeds e f h = rw (eq-eqb v (b .w) e, eq-eqb cs (grid-rows b * columns b) f, ne-eqb ss (32 * (grid-rows b * columns b)) h)
+    module _ (arrays : cs ≡ cells) where
+      pub other-seeds : (ss ≡ 32 * cells → ⊥) → false ≡ lent-fits b v cs ss ws
+      unfolding lent-fits
+      other-seeds h = rw (eq-eqb v (b .w) value, ← k, eq-eqb cs cells arrays, ne-eqb ss (32 * cells) h)
 
-  pub fits-but-words : v ≡ b .w → cs ≡ grid-rows b * columns b → ss ≡ 32 * (grid-rows b * columns b)
-      → eqb ws ((columns b - 1) * row-long b) ≡ lent-fits b v cs ss ws
-  unfolding lent-fits
-  fits-but-words e f g = rw (eq-eqb v (b .w) e, eq-eqb cs (grid-rows b * columns b) f, eq-eqb ss (32 * (grid-rows b * columns b)) g)
+      pub fits-but-words : (c l : ℕ) → ss ≡ 32 * cells → c ≡ columns b → l ≡ row-long b → eqb ws ((c - 1) * l) ≡ lent-fits b v cs ss ws
+      unfolding lent-fits
+      fits-but-words c l seeds e f =
+          rw (eq-eqb v (b .w) value, ← k, eq-eqb cs cells arrays, eq-eqb ss (32 * cells) seeds, e, f)
 
-  pub arrays-fit : lent-fits b v cs ss ws ≡ true → cs ≡ grid-rows b * columns b
+  pub arrays-fit : {r : Bool} → r ≡ lent-fits b v cs ss ws → not r ≡ false → cs ≡ grid-rows b * columns b
   unfolding lent-fits
-  arrays-fit h =
+  arrays-fit {r} e h =
       let cells = grid-rows b * columns b in
       let value = eqb v (b .w) in
       let arrays = eqb cs cells in
       let rest = eqb ss (32 * cells) && eqb ws ((columns b - 1) * row-long b) in
-      eqb-true cs cells (and-right value arrays (and-left (value && arrays) rest h))
+      eqb-true cs cells (and-right value arrays (and-left (value && arrays) rest (sym e ∙ not-false r h)))
 
 -- THE CHAIN
 

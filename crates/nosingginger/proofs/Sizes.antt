@@ -21,3 +21,7 @@ module _ (b : Board) (accepted : board-refusal b ≡ 0) where
 
   pub table-most : b .n * b .w ≤ 1048576
   table-most = let f = board-in b accepted in mul-le-mul (f .positions-most) (f .value-most)
+
+-- room by the code's length is room by the definition's
+pub room-for : (p : ℕ) {long key room : ℕ} → long ≡ key → p * long ≤ room → p * key ≤ room
+room-for p e h = rw e at h

@@ -16,21 +16,21 @@ use grid::board::MOST_PLAYERS;
 use grid::board::MOST_POSITIONS;
 use grid::board::within;
 use grid::sensor::SENSORS;
-pub use lent::deal;
-pub use square::open_one;
-pub use tables::join_keys;
-pub use tables::open_all;
 pub use keys::check::KeyCheck;
 pub use keys::check::check_key;
 use keys::grid_row::SEED_BYTES;
 pub use keys::held::held_seed;
 pub use keys::reader::Header;
+pub use lent::deal;
 use refusals::ACCEPTED;
 use refusals::REFUSED_EXPANSION;
 use refusals::REFUSED_LENT;
 use refusals::REFUSED_PLAYERS;
 use refusals::REFUSED_POSITIONS;
 use refusals::REFUSED_SENSOR;
+pub use square::open_one;
+pub use tables::join_keys;
+pub use tables::open_all;
 
 // The most bytes of a row.
 pub const MOST_ROW_BYTES: usize = 4096;

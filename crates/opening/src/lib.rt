@@ -41,14 +41,7 @@ fn add_column(seed: &[u8], word: &[u8], from: usize, row: &mut [u8], out: &mut [
 
 // XORs into `out` the shares of the grid row at which the part begins, from byte `from` of them on: over the columns that are marked
 // there, word and row. `row` has a row's length and is scratch.
-fn add_part(
-    part: &[u8],
-    board: Board,
-    grid_row: usize,
-    from: usize,
-    row: &mut [u8],
-    out: &mut [u8],
-)
+fn add_part(part: &[u8], board: Board, grid_row: usize, from: usize, row: &mut [u8], out: &mut [u8])
     requires { ⌜ (board-refusal (board-of board) ≡ 0) × («grid_row» < grid-rows (board-of board))
         × (length (now part) ≡ (grid-rows (board-of board) - «grid_row») * stride (board-of board) + columns (board-of board) * row-long (board-of board))
         × (count-marks (columns (board-of board)) 0 (now part) ≡ columns (board-of board) / 2)
@@ -201,10 +194,5 @@ pub fn add_table(key: &[u8], board: Board, out: &mut [u8])
 {
     let mut scratch = [0u8; 4096];
     let row_bytes = board.row_length();
-    add_rows(
-        body_of(key, board),
-        board,
-        &mut scratch[..row_bytes],
-        out,
-    );
+    add_rows(body_of(key, board), board, &mut scratch[..row_bytes], out);
 }
