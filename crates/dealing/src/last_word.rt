@@ -12,6 +12,7 @@ ghost use Rattle.keys.specs.Keys.{rows-from, words-from};
 ghost use Rattle.writer.specs.Written.{Wrote};
 ghost use Rattle.dealing.specs.Dealt.{rule, dealt-word};
 use grid::board::Board;
+use keys::grid_row::SEED_BYTES;
 
 // Writes the value from place `from` on, and zeros everywhere else.
 fn put_piece(out: &mut [u8], from: usize, value: &[u8])
@@ -46,8 +47,8 @@ fn xor_rows(out: &mut [u8], row: &mut [u8], count: usize, seeds: &[u8])
     let row_length = row.len();
     let mut column: usize = 0;
     while column < count {
-        let from = 32 * column;
-        let end = from + 32;
+        let from = SEED_BYTES * column;
+        let end = from + SEED_BYTES;
         chacha20::expand(&seeds[from..end], row);
         xor::xor_into(out, &row[..row_length]);
         column += 1;
@@ -73,7 +74,7 @@ fn last_word(out: &mut [u8], board: Board, point: u32, value: &[u8], seeds: &[u8
     let cell = (point % board.width * board.value_bytes) as usize;
     put_piece(out, cell, value);
     xor_words(out, columns - 1, words);
-    let from = 32 * ((point / board.width) as usize * columns);
+    let from = SEED_BYTES * ((point / board.width) as usize * columns);
     xor_expanded(out, columns, &seeds[from..]);
 }
 
