@@ -1,4 +1,3 @@
-pub mod Accepted
 pub mod Arrays
 pub mod Cells
 pub mod Checking

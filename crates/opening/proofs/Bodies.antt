@@ -5,8 +5,8 @@ use mathlib.Core.List.{List, _++_}
 use Prim.Native.Nat.{ℕ, suc, _+_, _*_, _-_, _/_, _%_, _≤_, _<_}
 use native.Mathlib.Nat.{mul-le-mul}
 use native.Mathlib.Omega.{arith}
-use lib.ListN.{length, take, drop, length-append, length-drop}
-use lib.Seq.{take-all, drop-at, length-take-le}
+use lib.ListN.{length, take, drop}
+use lib.Seq.{drop-append-add, length-take-le}
 use Rattle.xor.specs.Xor.{bytes-good}
 use Rattle.grid.specs.Grid.{Board, columns, grid-rows, row-long, board-refusal}
 use Rattle.grid.proofs.Facts.{Board-in, board-accepted, cell-in, cell-fits}
@@ -15,10 +15,6 @@ use Rattle.opening.specs.Shares.{in-front, shares}
 use Rattle.opening.proofs.Tables.{opened-shares}
 use Rattle.keys.proofs.Numbers.{header-reads}
 use Rattle.keys.proofs.Accepted.{Body-in, key-in, body-in}
-
--- how many bytes stand behind a header
-abbrev pub body-long : Board → ℕ
-body-long b = grid-rows b * stride b + columns b * row-long b
 
 -- a table's length is far from the largest number
 pub table-most : (b : Board) → Board-in b → b .n * b .w ≤ 1048576
@@ -51,38 +47,25 @@ module _ (ks : List ℕ) (b : Board) (accepted : key-refusal ks ≡ 0) (read : h
   pub key-body : bytes-good ks ≡ true → Body-in b (head-in ks .rest)
   key-body good = subst (λ (c : Board). Body-in c (head-in ks .rest)) read (body-in ks good (key-in ks accepted))
 
-  -- the header stands before them
-  header-before : bytes-good ks ≡ true → length ks ≡ length (header (head-in ks .board) (head-in ks .player)) + body-long b
-  header-before good =
-      let h = header (head-in ks .board) (head-in ks .player) in
-      let whole = header-reads ks good (key-in ks accepted .header-good) in
-      ap length whole ∙ length-append h (head-in ks .rest) ∙ ap (λ (n : ℕ). length h + n) (key-body good .long)
-
-  pub body-within : bytes-good ks ≡ true → body-long b ≤ length ks
-  body-within good = omega (arith, header-before good)
-
-  -- so they are the last bytes of the key
-  pub body-last : bytes-good ks ≡ true → (rows words : ℕ) → rows ≡ grid-rows b * stride b → words ≡ columns b * row-long b →
-      take (length ks - (length ks - (rows + words))) (drop (length ks - (rows + words)) ks) ≡ head-in ks .rest
-  body-last good rows words r w =
-      let h = header (head-in ks .board) (head-in ks .player) in
-      let whole = header-reads ks good (key-in ks accepted .header-good) in
-      let start : length ks - (rows + words) ≡ length h = omega (arith, header-before good) in
-      rw start
-      (take-all (length ks - length h) (drop (length h) ks) (rw length-drop (omega arith))
-      ∙ ap (λ (l : List ℕ). drop (length h) l) whole ∙ drop-at h (head-in ks .rest) (length h) refl)
+  -- the part of the key that begins behind the header and the grid rows before g
+  pub part-of-key : bytes-good ks ≡ true → (i g from : ℕ) → head-in ks .player ≡ i → from ≡ length (header b i) + g * stride b →
+      drop from ks ≡ row-part b (head-in ks .rest) g
+  unfolding row-part
+  part-of-key good i g from whose place =
+      let rest = head-in ks .rest in
+      let whole : ks ≡ header b i ++ rest =
+      header-reads ks good (key-in ks accepted .header-good) ∙ ap (λ (c : Board). header c (head-in ks .player) ++ rest) read ∙ ap (λ (j : ℕ). header b j ++ rest) whose in
+      ap (λ (n : ℕ). drop n ks) place ∙ ap (λ (l : List ℕ). drop (length (header b i) + g * stride b) l) whole ∙ drop-append-add (header b i) rest (g * stride b)
 
   -- document 03's table and opening of a square, by the bytes behind the header
-  pub table-is : (f : List ℕ → List ℕ) (bs : List ℕ) → bs ≡ head-in ks .rest → table-from (b .n) 0 b f (parts-of b bs) ≡ table f ks
+  pub table-is : (f : List ℕ → List ℕ) → table-from (b .n) 0 b f (parts-of b (head-in ks .rest)) ≡ table f ks
   unfolding table parts-in
-  table-is f bs e =
-      rw e (sym (ap (λ (c : Board). table-from (c .n) 0 c f (parts-of c (head-in ks .rest))) read))
+  table-is f = sym (ap (λ (c : Board). table-from (c .n) 0 c f (parts-of c (head-in ks .rest))) read)
 
-  opened-is : (f : List ℕ → List ℕ) (bs : List ℕ) (a : ℕ) → bs ≡ head-in ks .rest → opened-part b f (row-part b bs (a / b .wide)) a ≡ opened f ks a
+  opened-is : (f : List ℕ → List ℕ) (a : ℕ) → opened-part b f (row-part b (head-in ks .rest) (a / b .wide)) a ≡ opened f ks a
   unfolding opened
-  opened-is f bs a e =
-      rw e (sym (ap (λ (c : Board). opened-part c f (row-part c (head-in ks .rest) (a / c .wide)) a) read))
+  opened-is f a = sym (ap (λ (c : Board). opened-part c f (row-part c (head-in ks .rest) (a / c .wide)) a) read)
 
-  pub square-is : (f : List ℕ → List ℕ) (bs part : List ℕ) (a n : ℕ) → bs ≡ head-in ks .rest → part ≡ row-part b bs (a / b .wide) → n ≡ b .w →
+  pub square-is : (f : List ℕ → List ℕ) (part : List ℕ) (a n : ℕ) → part ≡ row-part b (head-in ks .rest) (a / b .wide) → n ≡ b .w →
       shares b f part (a / b .wide) (a % b .wide * b .w) n ≡ opened f ks a
-  square-is f bs part a n e p w = rw (p, w) (sym (opened-shares b f (row-part b bs (a / b .wide)) a) ∙ opened-is f bs a e)
+  square-is f part a n p w = rw (p, w) (sym (opened-shares b f (row-part b (head-in ks .rest) (a / b .wide)) a) ∙ opened-is f a)

@@ -41,15 +41,7 @@ behind g n s r h =
     let sum : g * s + (n - g) * s ≡ n * s = (let parts : g * s + (n - g) * s ≡ (g + (n - g)) * s = omega arith in parts ∙ ap (λ (m : ℕ). m * s) all) in
     omega arith
 
-pub part-is : (b : Board) (bs : List ℕ) (g start : ℕ) → start ≡ g * stride b → take (length bs - start) (drop start bs) ≡ row-part b bs g
-unfolding row-part
-part-is b bs g start place =
-    take-all (length bs - start) (drop start bs) (rw length-drop (omega arith)) ∙ ap (λ (n : ℕ). drop n bs) place
-
 module _ (b : Board) (bs : List ℕ) (body : Body-in b bs) (g : ℕ) (inside : g < grid-rows b) where
-  pub part-begins : g * stride b ≤ length bs
-  part-begins = omega (arith, body .long, mul-le-mul-right (stride b) inside)
-
   pub part-length : (part : List ℕ) → part ≡ row-part b bs g → length part ≡ (grid-rows b - g) * stride b + columns b * row-long b
   unfolding row-part
   part-length part e =
