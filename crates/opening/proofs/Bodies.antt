@@ -6,15 +6,15 @@ use Prim.Native.Nat.{ℕ, suc, _+_, _*_, _-_, _/_, _%_, _≤_, _<_}
 use native.Mathlib.Nat.{mul-le-mul}
 use native.Mathlib.Omega.{arith}
 use lib.ListN.{length, take, drop}
-use lib.Seq.{drop-append-add, length-take-le}
+use lib.Seq.{length-take-le}
 use Rattle.xor.specs.Xor.{bytes-good}
 use Rattle.grid.specs.Grid.{Board, columns, grid-rows, row-long, board-refusal}
 use Rattle.grid.proofs.Facts.{Board-in, board-accepted, cell-in, cell-fits}
 use Rattle.keys.specs.Keys.{key-refusal, head-in, header, stride, row-part, opened-part, opened, parts-of, parts-in, table-from, table}
 use Rattle.opening.specs.Shares.{in-front, shares}
 use Rattle.opening.proofs.Tables.{opened-shares}
-use Rattle.keys.proofs.Numbers.{header-reads}
 use Rattle.keys.proofs.Accepted.{Body-in, key-in, body-in}
+use Rattle.keys.proofs.Holding.{row-place}
 
 -- a table's length is far from the largest number
 pub table-most : (b : Board) → Board-in b → b .n * b .w ≤ 1048576
@@ -50,12 +50,11 @@ module _ (ks : List ℕ) (b : Board) (accepted : key-refusal ks ≡ 0) (read : h
   -- the part of the key that begins behind the header and the grid rows before g
   pub part-of-key : bytes-good ks ≡ true → (i g from : ℕ) → head-in ks .player ≡ i → from ≡ length (header b i) + g * stride b →
       drop from ks ≡ row-part b (head-in ks .rest) g
-  unfolding row-part
   part-of-key good i g from whose place =
       let rest = head-in ks .rest in
-      let whole : ks ≡ header b i ++ rest =
-      header-reads ks good (key-in ks accepted .header-good) ∙ ap (λ (c : Board). header c (head-in ks .player) ++ rest) read ∙ ap (λ (j : ℕ). header b j ++ rest) whose in
-      ap (λ (n : ℕ). drop n ks) place ∙ ap (λ (l : List ℕ). drop (length (header b i) + g * stride b) l) whole ∙ drop-append-add (header b i) rest (g * stride b)
+      let placed = subst (λ (c : Board). row-part c rest g ≡ drop (length (header c (head-in ks .player)) + g * stride c) ks) read (row-place ks g good (key-in ks accepted)) in
+      let whole : from ≡ length (header b (head-in ks .player)) + g * stride b = place ∙ ap (λ (j : ℕ). length (header b j) + g * stride b) (sym whose) in
+      ap (λ (n : ℕ). drop n ks) whole ∙ sym placed
 
   -- document 03's table and opening of a square, by the bytes behind the header
   pub table-is : (f : List ℕ → List ℕ) → table-from (b .n) 0 b f (parts-of b (head-in ks .rest)) ≡ table f ks

@@ -12,7 +12,8 @@ use borrow.Author.Needs.{needs}
 use Rattle.chacha20.specs.Expand.{expand}
 use Rattle.grid.specs.Grid.{columns, grid-rows, row-long}
 use Rattle.grid.specs.Code.{board-of}
-use Rattle.grid.proofs.Accepted.{row-most}
+use Rattle.grid.proofs.Facts.{board-in}
+use Rattle.grid.proofs.Sizes.{row-most}
 use Rattle.keys.specs.Keys.{count-marks, mark-bytes, stride}
 use Rattle.keys.specs.Held.{marked}
 use Rattle.opening.specs.Shares.{shares, shares-from}
@@ -125,7 +126,7 @@ add-column-requires c κs =
     let s = entry m in
     let l = in-loop .before .loop in (
       seed-whole _ (now (s .args .part)) _ (t .seed-after .ensures) (seed-room (t .before)),
-      omega (arith, row-most _ (s .pre .0)),
+      omega (arith, row-most _ (board-in _ (s .pre .0))),
       part-whole _ _ (now (s .args .part)) (word-room in-loop) ∙ sym (l .inv .2),
       omega (arith, l .inv .2, l .inv .3, m .before .before .before .before .before .clear .kept .0, s .pre .4, s .pre .5),
     )

@@ -1,0 +1,142 @@
+-- `opening::open_square` meets its contract. Assumes nothing.
+use mathlib.Core.Path.{_≡_, sym, _∙_}
+use Prim.Native.Nat.{ℕ, _+_, _*_, _/_, _%_, _≤_, _<_}
+use native.Mathlib.Omega.{arith}
+use lib.ListN.{length}
+use denote.Ref.{now}
+use borrow.Author.Needs.{needs}
+use Rattle.xor.proofs.Laws.{good-by-entries}
+use Rattle.grid.specs.Grid.{Board, board, board-refusal, grid-rows, row-long}
+use Rattle.grid.specs.Code.{board-of}
+use Rattle.grid.proofs.Facts.{Board-in, grid-row-in}
+use Rattle.grid.proofs.Sizes.{row-most}
+use Rattle.keys.specs.Keys.{head-in}
+use Rattle.keys.proofs.Accepted.{Body-in}
+use Rattle.opening.proofs.Bodies.{cell-within, prefix-long, put-in-front, key-board, key-board-accepted, key-body, square-is}
+use Rattle.opening.proofs.GridRows.{part-length, part-marks}
+use Rattle.opening.proofs.open_square.Statement.{statement}
+use Rattle.opening.proofs.open_square.Tie as tie
+
+abbrev its-board : tie.Start → Board
+its-board c = board-of (c .args .header .board)
+
+-- the key's board is accepted
+board-known : (c : tie.Start) → Board-in (its-board c)
+board-known c = key-board (now (c .args .key)) (its-board c) (c .pre .0 .accepted) (c .pre .0 .board-is)
+
+accepted : (c : tie.Start) → board-refusal (its-board c) ≡ 0
+accepted c = key-board-accepted (now (c .args .key)) (its-board c) (c .pre .0 .accepted) (c .pre .0 .board-is)
+
+-- the square's grid row is one, and its cell lies in a row
+width-least : (c : tie.Start) → 1 ≤ c .args .header .board .width
+unfolding board
+width-least c = board-known c .wide-least
+
+inside : (c : tie.Start) → c .args .position / c .args .header .board .width < grid-rows (its-board c)
+unfolding board
+inside c = grid-row-in (its-board c) (board-known c) (c .args .position) (c .pre .1)
+
+cell-room : (c : tie.Start) →
+    c .args .position % c .args .header .board .width * c .args .header .board .«value_bytes» + c .args .header .board .«value_bytes» ≤ row-long (its-board c)
+unfolding board
+cell-room c = cell-within (its-board c) (board-known c) (c .args .position)
+
+row-within : (c : tie.After-row-length) → c .row-length .result ≤ 4096
+row-within c = omega (arith, c .row-length .ensures, row-most _ (board-known (c .before .before .before .before)))
+
+body-known : (c : tie.After-shared-slice-known) → Body-in (its-board (c .before)) (head-in (now (c .before .args .key)) .rest)
+body-known c =
+    let s = c .before in
+    let ks = now (s .args .key) in
+    key-body ks (its-board s) (s .pre .0 .accepted) (s .pre .0 .board-is) (good-by-entries ks (λ i within. c .shared-slice-known .given i .fits))
+
+row-length-requires : tie.Need-row-length-requires
+row-length-requires c κs = accepted (c .before .before .before)
+
+div-grid-row : tie.Need-div-grid-row
+div-grid-row c = width-least (c .before .before .before .before .before)
+
+cast-grid-row : tie.Need-cast-grid-row
+cast-grid-row c =
+    let s = c .before .before .before .before .before in omega (arith, inside s, board-known s .rows-most)
+
+rem-from : tie.Need-rem-from
+rem-from c = width-least (c .before .before .before .before .before .before)
+
+mul-from : tie.Need-mul-from
+mul-from c =
+    let s = c .before .before .before .before .before .before .before in omega (arith, cell-room s, row-most _ (board-known s))
+
+cast-from : tie.Need-cast-from
+cast-from c =
+    let s = c .before .before .before .before .before .before .before in omega (arith, cell-room s, row-most _ (board-known s))
+
+cast-count : tie.Need-cast-count
+cast-count c =
+    let s = c .before .before .before .before .before .before .before .before in omega (arith, cell-room s, row-most _ (board-known s))
+
+row-part-requires : tie.Need-row-part-requires
+row-part-requires c κs =
+    let s = c .before .before .before .before .before .before .before .before in (s .pre .0, inside s)
+
+array-borrow-prefix-scratch : tie.Need-array-borrow-prefix-scratch
+array-borrow-prefix-scratch c = row-within (c .before .before .before .before .before)
+
+slice-aggregate-open-part : tie.Need-slice-aggregate-open-part
+slice-aggregate-open-part c = prefix-long (c .before .before .before .before .before .before .row-length .result) _ (row-within (c .before .before .before .before .before .before))
+
+slice-relend-prefix-open-part : tie.Need-slice-relend-prefix-open-part
+slice-relend-prefix-open-part c = c .before .before .before .before .before .before .before .before .before .before .pre .2
+
+slice-aggregate-open-part-2 : tie.Need-slice-aggregate-open-part-2
+slice-aggregate-open-part-2 c =
+    let s = c .before .before .before .before .before .before .before .before .before .before .before in prefix-long _ (now (s .args .out)) (s .pre .2)
+
+open-part-requires : tie.Need-open-part-requires
+open-part-requires c κs =
+    let p = c .before .before in
+    let r = p .before .before .before .before .before in
+    let known = r .before .before .before in
+    let s = known .before in (
+      accepted s,
+      inside s,
+      part-length (its-board s) _ (body-known known) _ (inside s) _ (p .row-part .ensures),
+      part-marks (its-board s) _ (body-known known) _ (inside s) _ (p .row-part .ensures),
+      sym (prefix-long (r .row-length .result) _ (row-within r)) ∙ r .row-length .ensures,
+      omega (arith, prefix-long _ (now (s .args .out)) (s .pre .2), cell-room s),
+    )
+
+same-length : tie.Need-same-length
+same-length c = search needs
+
+returns : tie.Need-returns
+unfolding board
+returns c =
+    let done = c .before .before .before in
+    let p = done .before .before .before in
+    let s = p .before .before .before .before .before .before .before .before .before in
+    put-in-front (done .open-part .last .1 .1 .1 .1 .1 .0) _ (now (s .args .out)) _
+    (done .open-part .ensures
+    ∙ square-is (now (s .args .key)) (its-board s) (s .pre .0 .accepted) (s .pre .0 .board-is) _ _ (s .args .position) _ (p .row-part .ensures)
+    (sym (prefix-long _ (now (s .args .out)) (s .pre .2))))
+    (s .pre .2) (done .open-part .kept .1 .1 .1 .1 .1 .0)
+
+pub open-square-spec : {M : Type 1} → statement M
+open-square-spec =
+    tie.close
+    (tie.spec
+    row-length-requires
+    div-grid-row
+    cast-grid-row
+    rem-from
+    mul-from
+    cast-from
+    cast-count
+    row-part-requires
+    array-borrow-prefix-scratch
+    slice-aggregate-open-part
+    slice-relend-prefix-open-part
+    slice-aggregate-open-part-2
+    open-part-requires
+    same-length
+    returns)

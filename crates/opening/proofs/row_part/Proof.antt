@@ -1,0 +1,35 @@
+-- `opening::row_part` meets its contract. Assumes nothing.
+use mathlib.Core.Path.{_≡_, _∙_}
+use Prim.Native.Nat.{ℕ, _<_}
+use native.Mathlib.Omega.{arith}
+use denote.Ref.{now}
+use borrow.Author.Needs.{needs}
+use Rattle.xor.proofs.Laws.{good-by-entries}
+use Rattle.grid.specs.Code.{board-of}
+use Rattle.keys.specs.Answers.{header-written}
+use Rattle.opening.proofs.Bodies.{key-board-accepted, part-of-key}
+use Rattle.opening.proofs.row_part.Statement.{statement}
+use Rattle.opening.proofs.row_part.Tie as tie
+
+grid-row-from-requires : tie.Need-grid-row-from-requires
+grid-row-from-requires c κs =
+    let s = c .before in
+    let known = s .pre .0 in
+    (key-board-accepted (now (s .args .key)) (board-of (s .args .header .board)) (known .accepted) (known .board-is), omega (arith, s .pre .1))
+
+part-from-requires : tie.Need-part-from-requires
+part-from-requires c κs = search needs
+
+returns : tie.Need-returns
+unfolding header-written
+returns c =
+    let known = c .before .before in
+    let s = known .before in
+    let h = s .pre .0 in
+    let ks = now (s .args .key) in
+    c .part-from .ensures
+    ∙ part-of-key ks (board-of (s .args .header .board)) (h .accepted) (h .board-is) (good-by-entries ks (λ i within. known .shared-slice-known .given i .fits))
+    (s .args .header .player) (s .args .grid-row) (c .before .grid-row-from .result) (h .player-is) (c .before .grid-row-from .ensures)
+
+pub row-part-spec : {M : Type 1} → statement M
+row-part-spec = tie.close (tie.spec grid-row-from-requires part-from-requires returns)
