@@ -1,20 +1,24 @@
--- The bytes behind an accepted key's header, what document 03 makes of them, and what is written in front of a lent list. Assumes nothing.
-use mathlib.Core.Path.{_≡_, refl, sym, ap, _∙_, subst}
+-- Accepted keys: the part of one that begins at a grid row, and what document 03's table and opening of a square make of the bytes behind its
+-- header. And what stands in a lent list when something was written in front. Assumes nothing.
+use mathlib.Core.Path.{_≡_, sym, ap, _∙_, subst}
 use mathlib.Core.Bool.{true}
 use mathlib.Core.List.{List, _++_}
-use Prim.Native.Nat.{ℕ, suc, _+_, _*_, _-_, _/_, _%_, _≤_, _<_}
+use Prim.Native.Nat.{ℕ, _+_, _*_, _/_, _%_, _≤_}
 use native.Mathlib.Nat.{mul-le-mul}
 use native.Mathlib.Omega.{arith}
 use lib.ListN.{length, take, drop}
 use lib.Seq.{length-take-le}
 use Rattle.xor.specs.Xor.{bytes-good}
-use Rattle.grid.specs.Grid.{Board, columns, grid-rows, row-long, board-refusal}
+use Rattle.grid.specs.Grid.{Board, row-long, board-refusal}
 use Rattle.grid.proofs.Facts.{Board-in, board-accepted, cell-in, cell-fits}
 use Rattle.keys.specs.Keys.{key-refusal, head-in, header, stride, row-part, opened-part, opened, parts-of, parts-in, table-from, table}
-use Rattle.opening.specs.Shares.{in-front, shares}
+use Rattle.keys.specs.Answers.{checked-as, key-checked}
+use Rattle.keys.specs.declared.reader.Header.{Header}
+use Rattle.keys.specs.declared.check.KeyCheck.{KeyCheck}
+use Rattle.opening.specs.Shares.{Accepted-with, in-front, shares}
 use Rattle.opening.proofs.Tables.{opened-shares}
 use Rattle.keys.proofs.Accepted.{Body-in, key-in, body-in}
-use Rattle.keys.proofs.Holding.{row-place}
+use Rattle.keys.proofs.Holding.{accepted-says, row-place}
 
 -- a table's length is far from the largest number
 pub table-most : (b : Board) → Board-in b → b .n * b .w ≤ 1048576
@@ -30,12 +34,16 @@ pub prefix-long : (n : ℕ) (xs : List ℕ) → n ≤ length xs → n ≡ length
 prefix-long n xs h = sym (length-take-le n xs h)
 
 pub put-in-front : (written new old : List ℕ) (n : ℕ) → written ≡ new → n ≤ length old → length written ≡ length (take n old) → written ++ drop n old ≡ in-front new old
-unfolding in-front
 put-in-front written new old n e h long =
     let size : n ≡ length new = prefix-long n old h ∙ sym long ∙ ap length e in
     rw (e, size)
 
--- THE BYTES BEHIND THE HEADER
+-- ACCEPTED KEYS
+
+-- what Check key answers is what opening asks: the key is accepted, and the header's numbers are its own
+pub accepted-with : (ks : List ℕ) (h : Header) → checked-as (KeyCheck.Accepted h) ≡ key-checked ks → Accepted-with ks h
+accepted-with ks h e =
+    let a = accepted-says ks h e in record { accepted = a .none; board-is = a .board-is; player-is = a .player-is }
 
 module _ (ks : List ℕ) (b : Board) (accepted : key-refusal ks ≡ 0) (read : head-in ks .board ≡ b) where
   pub key-board : Board-in b

@@ -36,5 +36,5 @@ pub record Accepted-with (ks : List ℕ) (h : Header) : Type 0 where
   pub player-is : head-in ks .player ≡ h .player
 
 -- "output past the bytes named keeps its bytes"
-unfoldable pub in-front : (new old : List ℕ) → List ℕ
+abbrev pub in-front : (new old : List ℕ) → List ℕ
 in-front new old = new ++ drop (length new) old

@@ -1,5 +1,8 @@
-// Opening a key, behind the refusals: one square from the part of the key that begins at its grid row, and the full table grid row by
-// grid row.
+// Opening an accepted key, the work of Open one and Open all behind their refusals: one square's share from the part of the key that
+// begins at its grid row, and the full table grid row by grid row. Both are stretches of a grid row's shares, the XOR over the player's
+// marked columns of word and row (field: full-domain evaluation of a key, and evaluation at one point). Rows are expanded into one
+// scratch row of 4,096 bytes, made once for each call and lent down. Whoever calls has checked the key and the room for the output.
+// Assumes nothing.
 use grid::board::Board;
 use keys::grid_row::mark;
 use keys::grid_row::mark_bytes;
@@ -9,8 +12,8 @@ use keys::grid_row::stride;
 use keys::length::grid_row_from;
 use keys::reader::Header;
 ghost use mathlib.Core.Path.{_≡_};
-ghost use Prim.Native.Nat.{_+_, _*_, _-_, _/_, _%_, _≤_, _<_, min};
-ghost use lib.ListN.{length, getD};
+ghost use Prim.Native.Nat.{_+_, _*_, _-_, _/_, _≤_, _<_, min};
+ghost use lib.ListN.{length};
 ghost use Rattle.xor.specs.Xor.{xors, zeros};
 ghost use Rattle.chacha20.specs.Expand.{expand};
 ghost use Rattle.grid.specs.Grid.{board-refusal, columns, grid-rows, row-long};

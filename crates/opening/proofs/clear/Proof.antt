@@ -1,9 +1,9 @@
 -- `opening::clear` meets its contract. The loop's invariant: the first bytes are zero, the rest is as it was lent. Assumes nothing.
-use mathlib.Core.Path.{_≡_, refl, sym, _∙_}
+use mathlib.Core.Path.{_≡_, refl, _∙_}
 use mathlib.Core.List.{List, _++_, append-nil}
 use Prim.Native.Nat.{ℕ, _≤_, _<_, _+_, _-_}
 use native.Mathlib.Omega.{arith}
-use lib.ListN.{length, getD, set, take, drop, length-set, getD-replicate, drop-of-length-le}
+use lib.ListN.{length, set, take, drop, length-set, getD-replicate, drop-of-length-le}
 use lib.Seq.{take-all}
 use denote.Ref.{now}
 use Rattle.xor.specs.Xor.{zeros}
