@@ -89,7 +89,7 @@ count-before ps j n h m =
 -- WHERE A GRID ROW BEGINS
 
 -- behind the header, in the key itself
-row-place : (ks : List ℕ) (g : ℕ) → bytes-good ks ≡ true → Key-in ks
+pub row-place : (ks : List ℕ) (g : ℕ) → bytes-good ks ≡ true → Key-in ks
     → row-part (head-in ks .board) (head-in ks .rest) g
     ≡ drop (length (header (head-in ks .board) (head-in ks .player)) + g * stride (head-in ks .board)) ks
 unfolding row-part

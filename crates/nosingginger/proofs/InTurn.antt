@@ -180,8 +180,9 @@ pub all-passed : {p place at : ℕ} (b : Board) (bs : List ℕ) → Passed p b b
 unfolding places-refusal
 all-passed {p} {place} b bs before h = let none : p - place ≡ 0 = omega arith in rw none at (before .rest)
 
--- where none is refused, each key at its place is an accepted key of the first one's board
-pub place-accepted : (b : Board) (i : ℕ) (ks : List ℕ) → place-refusal b i ks ≡ 0 → length ks ≡ key-long b → (key-refusal ks ≡ 0) × (head-in ks .board ≡ b)
+-- where none is refused, each key at its place is an accepted key of the first one's board and of its place's player
+pub place-accepted : (b : Board) (i : ℕ) (ks : List ℕ) → place-refusal b i ks ≡ 0 → length ks ≡ key-long b
+    → (key-refusal ks ≡ 0) × (head-in ks .board ≡ b) × (head-in ks .player ≡ i)
 unfolding place-refusal head-refusal
 place-accepted b i ks none long =
     let h = head-in ks in
@@ -189,7 +190,8 @@ place-accepted b i ks none long =
     let read = passed (not (h .good)) 10 _ (λ t n. omega arith) (both .0) in
     let own = numbers-fine (h .board) (h .player) (read .1) in
     let here = passed (not (same-board (h .board) b && eqb (h .player) i)) 15 _ (λ t n. omega arith) (both .1) in
-    let same : h .board ≡ b = boards-same (h .board) b (and-left (same-board (h .board) b) (eqb (h .player) i) (not-false _ (here .0))) in
+    let both-are = not-false (same-board (h .board) b && eqb (h .player) i) (here .0) in
+    let same : h .board ≡ b = boards-same (h .board) b (and-left (same-board (h .board) b) (eqb (h .player) i) both-are) in
     let marks = last-passed (marks-good (grid-rows b) b (h .rest)) 13 (omega arith) (here .1) in
     let board = board-in (h .board) (own .0) in
     let small : h .player < 128 = omega (arith, own .1, board .players-most) in (
@@ -202,6 +204,7 @@ place-accepted b i ks none long =
             marks = subst (λ (c : Board). marks-good (grid-rows c) c (h .rest) ≡ true) (sym same) marks;
           }),
       same,
+      eqb-true (h .player) i (and-right (same-board (h .board) b) (eqb (h .player) i) both-are),
     )
 
 pub places-each : (k i : ℕ) (b : Board) (bs : List ℕ) → places-refusal k i b bs ≡ 0 → (m : ℕ) → m < k
@@ -219,16 +222,18 @@ places-each (suc k) i b bs none (suc m) h =
 
 -- the key before `end`, counted from the last one down
 pub key-before : (b : Board) (bs : List ℕ) (p left long end : ℕ) → length bs ≡ p * key-long b → places-refusal p 0 b bs ≡ 0 → long ≡ key-long b
-    → 0 < left → left ≤ p → end ≡ left * long
-    → (key-refusal (take (end - (end - long)) (drop (end - long) bs)) ≡ 0) × (head-in (take (end - (end - long)) (drop (end - long) bs)) .board ≡ b)
+    → 0 < left → left ≤ p → end ≡ left * long → let ks = take (end - (end - long)) (drop (end - long) bs) in
+    (key-refusal ks ≡ 0) × (head-in ks .board ≡ b) × (head-in ks .player ≡ left - 1)
 key-before b bs p zero long end whole none k pos le e = let no : ⊥ = omega arith in absurd no
 key-before b bs p (suc m) long end whole none k pos le e =
     let room : suc m * key-long b ≤ p * key-long b = mul-le-mul-right (key-long b) le in
     let last : end ≡ suc m * key-long b = rw k at e in
     let wide : end - (end - long) ≡ key-long b = omega arith in
     let start : end - long ≡ m * key-long b = omega arith in
-    rw (wide, start)
-    (place-accepted b (0 + m) (take (key-long b) (drop (m * key-long b) bs)) (places-each p 0 b bs none m (omega arith))
+    let before : suc m - 1 ≡ m = omega arith in
+    let here : 0 + m ≡ m = omega arith in
+    rw (wide, start, before)
+    (place-accepted b m (take (key-long b) (drop (m * key-long b) bs)) (rw here at (places-each p 0 b bs none m (omega arith)))
     (length-take-le (key-long b) (drop (m * key-long b) bs) (rw length-drop (omega (arith, whole)))))
 
 -- THE WHOLE CHAIN

@@ -19,6 +19,10 @@ use Rattle.opening.specs.Shares as Opening
 use Rattle.nosingginger.specs.Entry.{or-else, in-front, rule, key-rule, Open-one-says, Open-all-says}
 use Rattle.nosingginger.proofs.Answering.{put-number, put-done, first-fits, next-fits}
 
+-- a key that Check key accepts
+pub with-header : (ks : List ℕ) (h : Header) → Accepted-as ks h → Opening.Accepted-with ks h
+with-header ks h key = record { accepted = key .none; board-is = key .board-is; player-is = key .player-is }
+
 -- a key that Check key refuses
 module _ (ks : List ℕ) (n : ℕ) (e : checked-as (KeyCheck.Refused n) ≡ key-checked ks) (rest : ℕ) where
   key-number : (or-else (key-refusal ks) rest ≡ n) × (n ≡ 0 → ⊥)
@@ -53,7 +57,7 @@ module _ (ks : List ℕ) (a : ℕ) (o : List ℕ) where
 
       pub one-opened : (z : List ℕ) → h .board .«value_bytes» ≤ length o
           → z ≡ Opening.in-front (opened (expand (row-long (board-of (h .board)))) ks a) o → Open-one-says ks a 0 o z
-      unfolding Open-one-says Opening.in-front in-front key-rule rule
+      unfolding Open-one-says in-front key-rule rule
       one-opened z r e =
           put-done _ _ 0 o z (one-number ∙ rw (lt-leb (h .board .positions) a inside, le-ltb (length o) (h .board .«value_bytes») r)) refl
           (rw (key .board-is) e)
@@ -69,6 +73,6 @@ module _ (ks : List ℕ) (a : ℕ) (o : List ℕ) where
 
     pub all-opened : (z : List ℕ) → h .board .positions * h .board .«value_bytes» ≤ length o
         → z ≡ Opening.in-front (table (expand (row-long (board-of (h .board)))) ks) o → Open-all-says ks 0 o z
-    unfolding Open-all-says Opening.in-front in-front key-rule rule
+    unfolding Open-all-says in-front key-rule rule
     all-opened z r e =
         put-done _ _ 0 o z (all-number ∙ rw (le-ltb (length o) (h .board .positions * h .board .«value_bytes») r)) refl (rw (key .board-is) e)

@@ -23,6 +23,6 @@ pub fn open_one(key: &[u8], position: u32, output: &mut [u8]) -> u32
     if output.len() < share {
         return REFUSED_ROOM;
     }
-    opening::open_square(key, board, position, output);
+    opening::open_square(key, header, position, output);
     ACCEPTED
 }

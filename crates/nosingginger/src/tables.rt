@@ -7,6 +7,7 @@ use grid::board::Board;
 use keys::check::KeyCheck;
 use keys::check::check_key;
 use keys::length::key_length;
+use keys::reader::Header;
 use keys::reader::Heading;
 use keys::reader::header_in;
 ghost use mathlib.Core.Path.{_≡_};
@@ -31,7 +32,7 @@ pub fn open_all(key: &[u8], output: &mut [u8]) -> u32
     if output.len() < table {
         return REFUSED_ROOM;
     }
-    opening::open_table(key, board, output);
+    opening::open_table(key, header, output);
     ACCEPTED
 }
 
@@ -46,10 +47,11 @@ fn joined_tables(board: Board, keys: &[u8], out: &mut [u8])
     let mut player = board.players;
     let mut end = keys.len();
     while 0 < player {
-        let start = end - long;
-        opening::add_table(&keys[start..end], board, out);
-        end = start;
         player -= 1;
+        let start = end - long;
+        let header = Header { board, player };
+        opening::add_table(&keys[start..end], header, out);
+        end = start;
     }
 }
 

@@ -1,23 +1,22 @@
 -- One grid row after another: where each begins in the key and in the table, how much of it the table has, and what is added after each.
 -- A short last grid row has all its cells in rows and words, and those below N in the table. Assumes nothing.
 use mathlib.Core.Path.{_≡_, refl, sym, ap, _∙_}
-use mathlib.Core.List.{List, [], _∷_, _++_, append-assoc, append-nil}
-use mathlib.Core.Logic.{_⊎_, ⊎-elim}
+use mathlib.Core.List.{List, [], _++_, append-assoc, append-nil}
 use Prim.Native.Nat.{ℕ, zero, suc, _+_, _*_, _-_, _/_, _≤_, _<_, min}
 use native.Mathlib.Nat.{mul-le-mul-right, le-div-iff-mul-le, lt-div-mul-add, min-eq-left, min-eq-right}
 use native.Mathlib.Decide.{decLe}
 use native.Mathlib.Omega.{arith}
 use lib.ListN.{length, take, drop, length-append, length-drop, drop-of-length-le}
-use lib.Seq.{take-all, take-at, take-add, drop-at, drop-drop, length-take-le}
+use lib.Seq.{take-at, drop-at, drop-drop, take-all, take-add, length-take-le}
 use Rattle.xor.specs.Xor.{xors, zeros}
 use Rattle.xor.proofs.Laws.{Word, length-xors, append-xors, xors-zeros-left}
 use Rattle.chacha20.specs.Expand.{expand}
 use Rattle.chacha20.proofs.Stream.{word-expand}
+use Rattle.keys.specs.Promise.{Rule-good}
+use Rattle.keys.proofs.Lists.{row-word}
 use Rattle.grid.specs.Grid.{Board, columns, grid-rows, row-long}
 use Rattle.grid.proofs.Facts.{Board-in}
 use Rattle.keys.specs.Keys.{count-marks, stride, row-part, Parts, parts-of, share-by-parts, table-from}
-use Rattle.keys.specs.Promise.{Rule-good}
-use Rattle.keys.proofs.Lists.{row-word}
 use Rattle.keys.proofs.Accepted.{Body-in, body-parts}
 use Rattle.keys.proofs.Opening.{tests-at, share-word, table-row}
 use Rattle.opening.specs.Shares.{shares}
@@ -52,15 +51,7 @@ behind g n s r h =
     let sum : g * s + (n - g) * s ≡ n * s = (let parts : g * s + (n - g) * s ≡ (g + (n - g)) * s = omega arith in parts ∙ ap (λ (m : ℕ). m * s) all) in
     omega arith
 
-pub part-is : (b : Board) (bs : List ℕ) (g start : ℕ) → start ≡ g * stride b → take (length bs - start) (drop start bs) ≡ row-part b bs g
-unfolding row-part
-part-is b bs g start place =
-    take-all (length bs - start) (drop start bs) (rw length-drop (omega arith)) ∙ ap (λ (n : ℕ). drop n bs) place
-
 module _ (b : Board) (bs : List ℕ) (body : Body-in b bs) (g : ℕ) (inside : g < grid-rows b) where
-  pub part-begins : g * stride b ≤ length bs
-  part-begins = omega (arith, body .long, mul-le-mul-right (stride b) inside)
-
   pub part-length : (part : List ℕ) → part ≡ row-part b bs g → length part ≡ (grid-rows b - g) * stride b + columns b * row-long b
   unfolding row-part
   part-length part e =

@@ -3,19 +3,19 @@
 -- players, positions, widths and rules at once. Assumes nothing.
 use mathlib.Core.Path.{_≡_, refl, sym, ap, _∙_}
 use mathlib.Core.Bool.{Bool, true, false, cond}
-use mathlib.Core.List.{List, [], _∷_, _++_, append-assoc}
-use Prim.Native.Nat.{ℕ, zero, suc, _+_, _*_, _-_, _/_, _%_, _≤_, _<_, min}
+use mathlib.Core.List.{List, _++_}
+use Prim.Native.Nat.{ℕ, zero, suc, _+_, _*_, _/_, _%_, _≤_, _<_}
 use native.Mathlib.Nat.{mul-le-mul-right}
 use native.Mathlib.Omega.{arith}
 use lib.Arith.{digits-div, digits-mod}
-use lib.ListN.{length, take, drop, length-append}
+use lib.ListN.{take, drop}
 use lib.Seq.{take-add, drop-drop}
-use Rattle.xor.specs.Xor.{xors, zeros}
-use Rattle.grid.specs.Grid.{Board, columns, grid-rows, row-long, cell}
+use Rattle.xor.specs.Xor.{zeros}
+use Rattle.grid.specs.Grid.{Board, columns, row-long, cell}
 use Rattle.grid.proofs.Facts.{Board-in, cell-fits}
 use Rattle.keys.proofs.Accepted.{Body-in}
 use Rattle.keys.proofs.Opening.{opened-part-is}
-use Rattle.keys.specs.Keys.{stride, mark-bytes, row-part, word-behind, opened-from, opened-part, Parts, parts-of, share-by-parts, table-from}
+use Rattle.keys.specs.Keys.{row-part, opened-from, opened-part, Parts, parts-of, share-by-parts, table-from}
 use Rattle.keys.specs.Held.{marked}
 use Rattle.opening.specs.Shares.{stretch, shares, shares-from}
 use Rattle.opening.proofs.Stretches.{shares-stretch}

@@ -1,31 +1,26 @@
-// Opening a key, behind the refusals: one square from the part of the key that begins at its grid row, and the full table grid row by
-// grid row.
+// Opening an accepted key, the work of Open one and Open all behind their refusals: one square's share from the part of the key that
+// begins at its grid row, and the full table grid row by grid row, written or XORed into what is there. Both are stretches of a grid row's shares, the XOR over the player's
+// marked columns of word and row (field: full-domain evaluation of a key, and evaluation at one point). Rows are expanded into one
+// scratch row of 4,096 bytes, made once for each call and lent down. Whoever calls has checked the key and the room for the output.
+// Assumes nothing.
 use grid::board::Board;
 use keys::grid_row::mark;
 use keys::grid_row::mark_bytes;
+use keys::grid_row::part_from;
 use keys::grid_row::seed_after;
 use keys::grid_row::stride;
+use keys::length::grid_row_from;
+use keys::reader::Header;
+use writer::clear;
 ghost use mathlib.Core.Path.{_≡_};
-ghost use mathlib.Core.Bool.{true};
-ghost use Prim.Native.Nat.{_+_, _*_, _-_, _/_, _%_, _≤_, _<_, min};
-ghost use lib.ListN.{length, getD};
-ghost use Rattle.xor.specs.Xor.{xors, zeros};
+ghost use Prim.Native.Nat.{_+_, _*_, _-_, _/_, _≤_, _<_, min};
+ghost use lib.ListN.{length};
+ghost use Rattle.xor.specs.Xor.{xors};
 ghost use Rattle.chacha20.specs.Expand.{expand};
 ghost use Rattle.grid.specs.Grid.{board-refusal, columns, grid-rows, row-long};
 ghost use Rattle.grid.specs.Code.{board-of};
-ghost use Rattle.keys.specs.Keys.{count-marks, stride, marks-good, key-refusal, head-in, row-part, opened, parts-of, table-from, table};
-ghost use Rattle.opening.specs.Shares.{stretch, shares, in-front};
-
-// Makes every byte zero.
-fn clear(out: &mut [u8])
-    ensures { λ r. ⌜ now (out .exit) ≡ zeros (length (now (out .entry))) ⌝ }
-{
-    let mut place: usize = 0;
-    while place < out.len() {
-        out[place] = 0;
-        place += 1;
-    }
-}
+ghost use Rattle.keys.specs.Keys.{count-marks, stride, head-in, row-part, opened, table};
+ghost use Rattle.opening.specs.Shares.{stretch, shares, Accepted-with, in-front};
 
 // XORs into `out` what a column gives from byte `from` on: its word, and the row of its seed. The row is expanded into `row`, which is
 // scratch: its bytes afterwards count for nothing.
@@ -84,39 +79,27 @@ fn open_part(
     add_part(part, board, grid_row, from, row, out);
 }
 
-// The bytes of an accepted key behind its header.
-fn body_of(key: &[u8], board: Board) -> &[u8]
-    requires { ⌜ (key-refusal (now key) ≡ 0) × (head-in (now key) .board ≡ board-of board) ⌝ }
-    ensures { λ r. ⌜ now r ≡ head-in (now (key .entry)) .rest ⌝ }
+// The part of an accepted key that begins at a grid row.
+fn row_part(key: &[u8], header: Header, grid_row: usize) -> &[u8]
+    requires { ⌜ Accepted-with (now key) «header» × («grid_row» < grid-rows (board-of («header» .board))) ⌝ }
+    ensures { λ r. ⌜ now r ≡ row-part (board-of («header» .board)) (head-in (now (key .entry)) .rest) «grid_row» ⌝ }
 {
-    let rows = board.grid_rows() * stride(board);
-    let words = board.columns() * board.row_length();
-    let start = key.len() - (rows + words);
-    &key[start..]
+    part_from(key, grid_row_from(header, grid_row))
 }
 
-// The part of the bytes behind a header that begins at a grid row.
-fn row_part(body: &[u8], board: Board, grid_row: usize) -> &[u8]
-    requires { ⌜ (board-refusal (board-of board) ≡ 0) × («grid_row» * stride (board-of board) ≤ length (now body)) ⌝ }
-    ensures { λ r. ⌜ now r ≡ row-part (board-of board) (now (body .entry)) «grid_row» ⌝ }
+// Writes a square's share, worked out of the header's numbers and the part of the key that begins at the square's grid row.
+pub fn open_square(key: &[u8], header: Header, position: u32, out: &mut [u8])
+    requires { ⌜ Accepted-with (now key) «header» × (position < «header» .board .positions) × («header» .board .«value_bytes» ≤ length (now out)) ⌝ }
+    ensures { λ r. ⌜ now (out .exit) ≡ in-front (opened (expand (row-long (board-of («header» .board)))) (now (key .entry)) position) (now (out .entry)) ⌝ }
 {
-    let start = grid_row * stride(board);
-    &body[start..]
-}
-
-// Writes the square's share, worked out of the header's numbers and the part of the key that begins at the square's grid row.
-pub fn open_square(key: &[u8], board: Board, position: u32, out: &mut [u8])
-    requires { ⌜ (key-refusal (now key) ≡ 0) × (head-in (now key) .board ≡ board-of board) × (position < board .positions) × (board .«value_bytes» ≤ length (now out)) ⌝ }
-    ensures { λ r. ⌜ now (out .exit) ≡ in-front (opened (expand (row-long (board-of board))) (now (key .entry)) position) (now (out .entry)) ⌝ }
-{
-    let body = body_of(key, board);
+    let board = header.board;
     let mut scratch = [0u8; 4096];
     let row_bytes = board.row_length();
     let grid_row = (position / board.width) as usize;
     let from = ((position % board.width) * board.value_bytes) as usize;
     let count = board.value_bytes as usize;
     open_part(
-        row_part(body, board, grid_row),
+        row_part(key, header, grid_row),
         board,
         grid_row,
         from,
@@ -132,15 +115,14 @@ fn least(first: usize, second: usize) -> usize
     if first < second { first } else { second }
 }
 
-// XORs into `out` the table of the bytes behind a header, grid row by grid row. Rows and words have all cells of a short last grid row,
-// the table those below N. `row` has a row's length and is scratch.
-fn add_rows(body: &[u8], board: Board, row: &mut [u8], out: &mut [u8])
-    requires { ⌜ (board-refusal (board-of board) ≡ 0)
-        × (length (now body) ≡ grid-rows (board-of board) * stride (board-of board) + columns (board-of board) * row-long (board-of board))
-        × (marks-good (grid-rows (board-of board)) (board-of board) (now body) ≡ true)
-        × (length (now row) ≡ row-long (board-of board)) × (length (now out) ≡ board .positions * board .«value_bytes») ⌝ }
-    ensures { λ r. ⌜ now (out .exit) ≡ xors (now (out .entry)) (table-from (board .positions) 0 (board-of board) (expand (row-long (board-of board))) (parts-of (board-of board) (now (body .entry)))) ⌝ }
+// XORs the full table into `out`, which has its length, grid row by grid row: each held seed is expanded once. Rows and words have all cells
+// of a short last grid row, the table those below N. `row` has a row's length and is scratch.
+fn add_rows(key: &[u8], header: Header, row: &mut [u8], out: &mut [u8])
+    requires { ⌜ Accepted-with (now key) «header» × (length (now row) ≡ row-long (board-of («header» .board)))
+        × (length (now out) ≡ «header» .board .positions * «header» .board .«value_bytes») ⌝ }
+    ensures { λ r. ⌜ now (out .exit) ≡ xors (now (out .entry)) (table (expand (row-long (board-of («header» .board)))) (now (key .entry))) ⌝ }
 {
+    let board = header.board;
     let grid_rows = board.grid_rows();
     let row_bytes = row.len();
     let mut grid_row: usize = 0;
@@ -148,7 +130,7 @@ fn add_rows(body: &[u8], board: Board, row: &mut [u8], out: &mut [u8])
         let at = grid_row * row_bytes;
         let end = at + least(row_bytes, out.len() - at);
         add_part(
-            row_part(body, board, grid_row),
+            row_part(key, header, grid_row),
             board,
             grid_row,
             0,
@@ -159,40 +141,35 @@ fn add_rows(body: &[u8], board: Board, row: &mut [u8], out: &mut [u8])
     }
 }
 
-// Fills `out` with this table.
-fn open_rows(body: &[u8], board: Board, row: &mut [u8], out: &mut [u8])
-    requires { ⌜ (board-refusal (board-of board) ≡ 0)
-        × (length (now body) ≡ grid-rows (board-of board) * stride (board-of board) + columns (board-of board) * row-long (board-of board))
-        × (marks-good (grid-rows (board-of board)) (board-of board) (now body) ≡ true)
-        × (length (now row) ≡ row-long (board-of board)) × (length (now out) ≡ board .positions * board .«value_bytes») ⌝ }
-    ensures { λ r. ⌜ now (out .exit) ≡ table-from (board .positions) 0 (board-of board) (expand (row-long (board-of board))) (parts-of (board-of board) (now (body .entry))) ⌝ }
+// Fills `out` with the full table.
+fn open_rows(key: &[u8], header: Header, row: &mut [u8], out: &mut [u8])
+    requires { ⌜ Accepted-with (now key) «header» × (length (now row) ≡ row-long (board-of («header» .board)))
+        × (length (now out) ≡ «header» .board .positions * «header» .board .«value_bytes») ⌝ }
+    ensures { λ r. ⌜ now (out .exit) ≡ table (expand (row-long (board-of («header» .board)))) (now (key .entry)) ⌝ }
 {
     clear(out);
-    add_rows(body, board, row, out);
+    add_rows(key, header, row, out);
 }
 
 // Writes the full table.
-pub fn open_table(key: &[u8], board: Board, out: &mut [u8])
-    requires { ⌜ (key-refusal (now key) ≡ 0) × (head-in (now key) .board ≡ board-of board) × (board .positions * board .«value_bytes» ≤ length (now out)) ⌝ }
-    ensures { λ r. ⌜ now (out .exit) ≡ in-front (table (expand (row-long (board-of board))) (now (key .entry))) (now (out .entry)) ⌝ }
+pub fn open_table(key: &[u8], header: Header, out: &mut [u8])
+    requires { ⌜ Accepted-with (now key) «header» × («header» .board .positions * «header» .board .«value_bytes» ≤ length (now out)) ⌝ }
+    ensures { λ r. ⌜ now (out .exit) ≡ in-front (table (expand (row-long (board-of («header» .board)))) (now (key .entry))) (now (out .entry)) ⌝ }
 {
+    let board = header.board;
     let mut scratch = [0u8; 4096];
     let row_bytes = board.row_length();
     let count = (board.positions * board.value_bytes) as usize;
-    open_rows(
-        body_of(key, board),
-        board,
-        &mut scratch[..row_bytes],
-        &mut out[..count],
-    );
+    open_rows(key, header, &mut scratch[..row_bytes], &mut out[..count]);
 }
 
 // XORs the full table into `out`.
-pub fn add_table(key: &[u8], board: Board, out: &mut [u8])
-    requires { ⌜ (key-refusal (now key) ≡ 0) × (head-in (now key) .board ≡ board-of board) × (length (now out) ≡ board .positions * board .«value_bytes») ⌝ }
-    ensures { λ r. ⌜ now (out .exit) ≡ xors (now (out .entry)) (table (expand (row-long (board-of board))) (now (key .entry))) ⌝ }
+pub fn add_table(key: &[u8], header: Header, out: &mut [u8])
+    requires { ⌜ Accepted-with (now key) «header» × (length (now out) ≡ «header» .board .positions * «header» .board .«value_bytes») ⌝ }
+    ensures { λ r. ⌜ now (out .exit) ≡ xors (now (out .entry)) (table (expand (row-long (board-of («header» .board)))) (now (key .entry))) ⌝ }
 {
+    let board = header.board;
     let mut scratch = [0u8; 4096];
     let row_bytes = board.row_length();
-    add_rows(body_of(key, board), board, &mut scratch[..row_bytes], out);
+    add_rows(key, header, &mut scratch[..row_bytes], out);
 }

@@ -1,23 +1,20 @@
 -- `opening::add_part` meets its contract. The loop's invariant: the seeds used and the marks that are left are half the columns, and what is in
 -- `out`, with what the columns that are left add, is the shares XORed into what was. Assumes nothing.
-use mathlib.Core.Path.{_≡_, refl, sym, ap, _∙_}
-use mathlib.Core.Bool.{true}
+use mathlib.Core.Path.{_≡_, sym, ap, _∙_}
 use mathlib.Core.Logic.{⊎-elim}
-use mathlib.Core.List.{List}
-use Prim.Native.Nat.{ℕ, _≤_, _<_, _+_, _*_, _-_, _/_}
+use Prim.Native.Nat.{ℕ, _≤_, _+_, _*_, _-_, _/_}
 use native.Mathlib.Omega.{arith}
-use lib.ListN.{length, take, drop}
+use lib.ListN.{length}
 use denote.Ref.{now}
 use borrow.Author.Needs.{needs}
-use Rattle.xor.specs.Xor.{xors}
 use Rattle.xor.proofs.Laws.{good-by-entries}
+use Rattle.xor.specs.Xor.{zeros, xors}
 use Rattle.chacha20.specs.Expand.{expand}
 use Rattle.grid.specs.Grid.{columns, grid-rows, row-long}
 use Rattle.grid.specs.Code.{board-of}
 use Rattle.grid.proofs.Facts.{board-in}
 use Rattle.grid.proofs.Sizes.{row-most}
 use Rattle.keys.specs.Keys.{count-marks, mark-bytes, stride}
-use Rattle.keys.specs.Held.{marked}
 use Rattle.opening.specs.Shares.{shares, shares-from}
 use Rattle.opening.proofs.Columns.{part-long, part-whole, products, word-fits, seed-fits, seed-whole, word-is, row-is, count-start, shares-start, shares-end, seed-held, count-marked, count-unmarked, marked-turn, unmarked-turn}
 use Rattle.opening.proofs.add_part.Statement.{statement}
@@ -60,6 +57,7 @@ mul-words : tie.Need-mul-words Inv-loop μ-loop
 mul-words c = omega (arith, words-at c, entry c .pre .2)
 
 loop-holds : tie.Need-loop-holds Inv-loop μ-loop
+unfolding zeros
 loop-holds c =
     let s = entry c in
     let out = now (s .args .out) in (

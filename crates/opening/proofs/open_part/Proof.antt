@@ -1,15 +1,12 @@
 -- `opening::open_part` meets its contract. Assumes nothing.
 use lib.ListN.{length}
 use denote.Ref.{now}
+use Rattle.xor.specs.Xor.{zeros}
 use Rattle.grid.specs.Code.{board-of}
 use Rattle.opening.proofs.Columns.{shares-fresh}
 use borrow.Author.Needs.{needs}
 use Rattle.opening.proofs.open_part.Statement.{statement}
 use Rattle.opening.proofs.open_part.Tie as tie
-use Rattle.opening.proofs.open_part.Reads as reads
-use Rattle.opening.proofs.open_part.Lts as lts
-use Rattle.opening.proofs.add_part.Reads as add-part-reads
-use Rattle.opening.proofs.clear.Reads as clear-reads
 
 clear-requires : tie.Need-clear-requires
 clear-requires c κs = search needs
@@ -24,6 +21,7 @@ same-length-2 : tie.Need-same-length-2
 same-length-2 c = search needs
 
 returns : tie.Need-returns
+unfolding zeros
 returns c =
     let added = c .before .before .before .before in
     let cleared = added .before .before .before .before .before in

@@ -1,40 +1,34 @@
 -- `opening::row_part` meets its contract. Assumes nothing.
-use mathlib.Core.Path.{_≡_, ap}
-use Prim.Native.Nat.{ℕ, _*_, _≤_}
+use mathlib.Core.Path.{_∙_}
 use native.Mathlib.Omega.{arith}
-use lib.ListN.{length}
 use denote.Ref.{now}
-use Rattle.grid.specs.Code.{board-of}
-use Rattle.keys.specs.Keys.{stride}
-use Rattle.opening.proofs.GridRows.{part-is}
 use borrow.Author.Needs.{needs}
+use Rattle.xor.proofs.Laws.{good-by-entries}
+use Rattle.grid.specs.Code.{board-of}
+use Rattle.keys.specs.Answers.{header-written}
+use Rattle.opening.proofs.Bodies.{key-board-accepted, part-of-key}
 use Rattle.opening.proofs.row_part.Statement.{statement}
 use Rattle.opening.proofs.row_part.Tie as tie
 
--- where the part begins, by the code's numbers
-start-is : (c : tie.After-stride) → let a = c .before .before .args in a .grid-row * c .stride .result ≡ a .grid-row * stride (board-of (a .board))
-start-is c = ap (λ (n : ℕ). c .before .before .args .grid-row * n) (c .stride .ensures)
+grid-row-from-requires : tie.Need-grid-row-from-requires
+grid-row-from-requires c κs =
+    let s = c .before in
+    let known = s .pre .0 in
+    (key-board-accepted (now (s .args .key)) (board-of (s .args .header .board)) (known .accepted) (known .board-is), omega (arith, s .pre .1))
 
-stride-requires : tie.Need-stride-requires
-stride-requires c κs = search needs
-
-mul-start : tie.Need-mul-start
-mul-start c = omega (arith, start-is c, c .before .before .pre .1)
-
-sub-result : tie.Need-sub-result
-sub-result c = omega (arith, start-is c, c .before .before .pre .1)
-
-part-result-start : tie.Need-part-result-start
-part-result-start c = omega (arith, start-is c, c .before .before .pre .1)
-
-part-result-end : tie.Need-part-result-end
-part-result-end c = search needs
+part-from-requires : tie.Need-part-from-requires
+part-from-requires c κs = search needs
 
 returns : tie.Need-returns
+unfolding header-written
 returns c =
-    let a = c .before .before .before .args in part-is (board-of (a .board)) (now (a .body)) (a .grid-row) _ (start-is (c .before))
+    let known = c .before .before in
+    let s = known .before in
+    let h = s .pre .0 in
+    let ks = now (s .args .key) in
+    c .part-from .ensures
+    ∙ part-of-key ks (board-of (s .args .header .board)) (h .accepted) (h .board-is) (good-by-entries ks (λ i within. known .shared-slice-known .given i .fits))
+    (s .args .header .player) (s .args .grid-row) (c .before .grid-row-from .result) (h .player-is) (c .before .grid-row-from .ensures)
 
 pub row-part-spec : {M : Type 1} → statement M
-row-part-spec =
-    tie.close
-    (tie.spec stride-requires mul-start sub-result part-result-start part-result-end returns)
+row-part-spec = tie.close (tie.spec grid-row-from-requires part-from-requires returns)

@@ -3,7 +3,7 @@ use mathlib.Core.Path.{_≡_, sym, ap, _∙_}
 use denote.Ref.{now}
 use Rattle.keys.specs.Answers.{checked-as}
 use Rattle.keys.proofs.Holding.{Accepted-as, accepted-says}
-use Rattle.nosingginger.proofs.Squares.{one-key-refused, one-position-refused, one-room-refused, one-opened}
+use Rattle.nosingginger.proofs.Squares.{with-header, one-key-refused, one-position-refused, one-room-refused, one-opened}
 use borrow.Author.Needs.{needs}
 use Rattle.nosingginger.proofs.square.open_one.Statement.{statement}
 use Rattle.nosingginger.proofs.square.open_one.Tie as tie
@@ -39,7 +39,7 @@ open-square-requires : tie.Need-open-square-requires
 open-square-requires c κs =
     let room = c .before in
     let inside = room .before in
-    let key = accepted (inside .before .before .before) in (key .none, key .board-is, inside .if1 .left, room .if2 .left)
+    let key = accepted (inside .before .before .before) in (with-header _ _ key, inside .if1 .left, room .if2 .left)
 
 same-length : tie.Need-same-length
 same-length c = search needs

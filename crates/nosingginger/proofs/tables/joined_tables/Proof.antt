@@ -66,7 +66,7 @@ add-table-requires c κs =
     let m = p .before .before in
     let s = entry m in
     let key = key-before (board-of (s .args .board)) (now (s .args .keys)) _ (l .player) _ (l .end) (s .pre .1) (s .pre .2) (m .key-length .ensures) (p .loop-test .taken) (l .inv .0) (l .inv .1) in
-    (key .0, key .1, l .inv .2 ∙ m .before .before .before .clear .kept .0 ∙ s .pre .3)
+    (record { accepted = key .0; board-is = key .1; player-is = key .2 }, l .inv .2 ∙ m .before .before .before .clear .kept .0 ∙ s .pre .3)
 
 sub-player : tie.Need-sub-player Inv-loop μ-loop
 sub-player c = omega arith
@@ -102,12 +102,12 @@ joined-tables-spec =
     clear-requires
     key-length-requires
     loop-holds
+    sub-player
     sub-start
     sub-add-table
     part-add-table-start
     part-add-table-end
     add-table-requires
-    sub-player
     loop-less
     loop-again
     same-length

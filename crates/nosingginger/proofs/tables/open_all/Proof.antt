@@ -8,7 +8,7 @@ use Rattle.grid.specs.Grid.{board}
 use Rattle.grid.specs.Code.{board-of}
 use Rattle.keys.proofs.Holding.{Accepted-as, accepted-says, board-fine}
 use Rattle.nosingginger.proofs.Sizes.{table-most}
-use Rattle.nosingginger.proofs.Squares.{all-key-refused, all-room-refused, all-opened}
+use Rattle.nosingginger.proofs.Squares.{with-header, all-key-refused, all-room-refused, all-opened}
 use borrow.Author.Needs.{needs}
 use Rattle.nosingginger.proofs.tables.open_all.Statement.{statement}
 use Rattle.nosingginger.proofs.tables.open_all.Tie as tie
@@ -46,7 +46,7 @@ returns-2 c = all-room-refused _ 0 _ _ (accepted (c .before .before .before)) (c
 open-table-requires : tie.Need-open-table-requires
 open-table-requires c κs =
     let room = c .before in
-    let key = accepted (room .before .before .before) in (key .none, key .board-is, room .if1 .left)
+    let key = accepted (room .before .before .before) in (with-header _ _ key, room .if1 .left)
 
 same-length : tie.Need-same-length
 same-length c = search needs
