@@ -56,16 +56,18 @@ packed-next n i from cs = go (leb (length cs) from) refl
     none : (m : ℕ) → packed-from m 0 i [] ≡ 0
     none zero = refl
     none (suc m) = refl
+
     digit : (t : Bool) (few more : ℕ) → more ≡ 2 * few → few * 2 + cond t 1 0 ≡ cond t 1 0 + more
     digit true few more e = omega arith
     digit false few more e = omega arith
+
     go : (t : Bool) → leb (length cs) from ≡ t →
         packed-from n 0 i (drop (suc from) cs) * 2 + cond (bit (getD cs from 0) i) 1 0 ≡ packed-from (suc n) 0 i (drop from cs)
     go true e =
         let past = leb-true (length cs) from e in
         rw (drop-of-length-le cs past, drop-of-length-le cs {i = suc from} (omega arith), List·getD-eq-default cs 0 past, bit-nothing i, none n)
     go false e =
-        rw (drop-cons cs from 0 (leb-false (length cs) from e)) 
+        rw (drop-cons cs from 0 (leb-false (length cs) from e))
         (digit (bit (getD cs from 0) i) (packed-from n 0 i (drop (suc from) cs)) (packed-from n 1 i (drop (suc from) cs)) (packed-double n 0 i (drop (suc from) cs)))
 
 -- PACKED BYTES, one more
@@ -122,7 +124,7 @@ held-within j i cs ss h =
     let next = cond (bit (getD cs j 0) i) (take 32 (drop (32 * j) ss)) [] in
     let behind = held-seeds i (drop (suc j) cs) (drop (32 * suc j) ss) in
     let whole : length (held-seeds i cs ss) ≡ length (before ++ next) + length behind =
-        ap length (held-split (suc j) i cs ss ∙ ap (λ (l : List ℕ). l ++ behind) (held-snoc j i cs ss h)) ∙ length-append (before ++ next) behind in
+    ap length (held-split (suc j) i cs ss ∙ ap (λ (l : List ℕ). l ++ behind) (held-snoc j i cs ss h)) ∙ length-append (before ++ next) behind in
     omega (arith, length-append before next)
 
 -- writing one more
@@ -165,7 +167,7 @@ body-split (suc k) m b i cs ss =
     let next : J + k * J ≡ suc k * J = omega arith in
     let next-seeds : 32 * J + 32 * (k * J) ≡ 32 * (suc k * J) = omega arith in
     let behind : body-from m b i (drop (k * J) (drop J cs)) (drop (32 * (k * J)) (drop (32 * J) ss)) ≡ body-from m b i (drop (suc k * J) cs) (drop (32 * (suc k * J)) ss) =
-        rw (drop-drop (k * J) J cs, next, drop-drop (32 * (k * J)) (32 * J) ss, next-seeds) in
+    rw (drop-drop (k * J) J cs, next, drop-drop (32 * (k * J)) (32 * J) ss, next-seeds) in
     rw more
     (ap (λ (l : List ℕ). first ++ l) (body-split k m b i (drop J cs) (drop (32 * J) ss) ∙ ap (λ (l : List ℕ). body-from k b i (drop J cs) (drop (32 * J) ss) ++ l) behind)
     ∙ sym (append-assoc first (body-from k b i (drop J cs) (drop (32 * J) ss)) (body-from m b i (drop (suc k * J) cs) (drop (32 * (suc k * J)) ss))))
@@ -186,8 +188,8 @@ body-within k n b i cs ss h =
     let row = row-at k b i cs ss in
     let behind = body-from rest b i (drop ((k + 1) * columns b) cs) (drop (32 * ((k + 1) * columns b)) ss) in
     let whole : length (body-from n b i cs ss) ≡ length (front ++ row) + length behind =
-        ap (λ (m : ℕ). length (body-from m b i cs ss)) (sym all) ∙ ap length (body-split (k + 1) rest b i cs ss) ∙ length-append (body-from (k + 1) b i cs ss) behind
-        ∙ ap (λ (l : List ℕ). length l + length behind) (body-snoc k b i cs ss) in
+    ap (λ (m : ℕ). length (body-from m b i cs ss)) (sym all) ∙ ap length (body-split (k + 1) rest b i cs ss) ∙ length-append (body-from (k + 1) b i cs ss) behind
+    ∙ ap (λ (l : List ℕ). length l + length behind) (body-snoc k b i cs ss) in
     omega (arith, length-append front row)
 
 -- writing one more

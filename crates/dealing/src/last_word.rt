@@ -55,14 +55,7 @@ fn xor_rows(out: &mut [u8], row: &mut [u8], count: usize, seeds: &[u8])
 }
 
 // Fills `out` with the last word.
-fn last_word(
-    out: &mut [u8],
-    board: Board,
-    point: u32,
-    value: &[u8],
-    seeds: &[u8],
-    words: &[u8],
-)
+fn last_word(out: &mut [u8], board: Board, point: u32, value: &[u8], seeds: &[u8], words: &[u8])
     requires { ⌜ (board-refusal (board-of board) ≡ 0) × (point < board .positions) × (length (now value) ≡ board .«value_bytes») × (length (now seeds) ≡ 32 * (grid-rows (board-of board) * columns (board-of board))) × (length (now words) ≡ (columns (board-of board) - 1) * row-long (board-of board)) × (length (now out) ≡ row-long (board-of board)) ⌝ }
     ensures { λ r. ⌜ now (out .exit) ≡ dealt-word (board-of board) (rule (board-of board)) point (now (value .entry)) (now (seeds .entry)) (now (words .entry)) ⌝ }
 {

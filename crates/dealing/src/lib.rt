@@ -2,6 +2,7 @@
 pub mod header;
 pub mod last_word;
 pub mod rows;
+
 ghost use mathlib.Core.Path.{_≡_};
 ghost use Prim.Native.Nat.{_+_, _*_, _≤_, _<_};
 ghost use lib.ListN.{length};
@@ -25,7 +26,15 @@ fn put_front(
     requires { ⌜ (board-refusal (board-of board) ≡ 0) × (player < 8) × (length (now arrays) ≡ grid-rows (board-of board) * columns (board-of board)) × (length (now seeds) ≡ 32 * (grid-rows (board-of board) * columns (board-of board))) × (at + length (key-front (board-of board) player (now arrays) (now seeds) (now words)) ≤ length (now out)) ⌝ }
     ensures { λ r. ⌜ Wrote at (key-front (board-of board) player (now (arrays .entry)) (now (seeds .entry)) (now (words .entry))) r (now (out .entry)) (now (out .exit)) ⌝ }
 {
-    let next = header::put_header(out, at, board.players, player, board.positions, board.width, board.value_bytes);
+    let next = header::put_header(
+        out,
+        at,
+        board.players,
+        player,
+        board.positions,
+        board.width,
+        board.value_bytes,
+    );
     let next = rows::put_rows(out, next, board, player, arrays, seeds);
     writer::put(out, next, words)
 }

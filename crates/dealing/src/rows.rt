@@ -127,7 +127,14 @@ pub fn put_rows(
         let from = grid_row * columns;
         let end = from + columns;
         let seed = 32 * from;
-        next = put_row(out, next, player, mark_bytes, &arrays[from..end], &seeds[seed..]);
+        next = put_row(
+            out,
+            next,
+            player,
+            mark_bytes,
+            &arrays[from..end],
+            &seeds[seed..],
+        );
         grid_row += 1;
     }
     next

@@ -17,7 +17,7 @@ use Rattle.dealing.proofs.rows.marked.Reads as marked-reads
 
 returns : tie.Need-returns
 unfolding mark-digit
-returns c = 
+returns c =
     let a = c .before .before .args in
     sym (ap (λ (v : ℕ). mark-digit v (a .player)) (List·getD-eq-default (now (a .array)) 0 (omega arith)) ∙ rw (bit-nothing (a .player)))
 

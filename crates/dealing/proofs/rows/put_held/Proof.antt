@@ -82,10 +82,12 @@ loop-again c =
     let s = c .before .before .before .before .before .before .before .before .before .before .before .before in
     let a = s .args in
     let l = c .before .before .before .before .before .before .before .before .loop in
-    let written = c .before .before .put-if in
-    (omega arith, written .kept .0 ∙ l .inv .1,
-    held-turn (a .at) (l .column) (a .player) (c .before .before .before .before .marked .result) (now (a .array)) (now (a .seeds)) (omega arith) (s .pre .2) (c .before .before .before .before .marked .ensures) (l .inv .2)
-    (rw (seed-part (32 * l .column)) at (written .ensures)))
+    let written = c .before .before .put-if in (
+      omega arith,
+      written .kept .0 ∙ l .inv .1,
+      held-turn (a .at) (l .column) (a .player) (c .before .before .before .before .marked .result) (now (a .array)) (now (a .seeds)) (omega arith) (s .pre .2) (c .before .before .before .before .marked .ensures) (l .inv .2)
+          (rw (seed-part (32 * l .column)) at (written .ensures)),
+    )
 
 same-length : tie.Need-same-length Inv-loop μ-loop
 same-length c = c .before .loop .inv .1

@@ -48,9 +48,11 @@ loop-again c =
     let s = c .before .before .before .before .before .before .before .before .before in
     let a = s .args in
     let l = c .before .before .before .before .before .before .loop in
-    let written = c .before .before .put-byte in
-    (omega arith, written .kept .0 ∙ l .inv .1,
-    marks-turn (a .at) (a .count) (l .byte) (a .player) _ (now (a .array)) (omega arith) (s .pre .2) (c .before .before .before .mark-byte .ensures) (l .inv .2) (written .ensures))
+    let written = c .before .before .put-byte in (
+      omega arith,
+      written .kept .0 ∙ l .inv .1,
+      marks-turn (a .at) (a .count) (l .byte) (a .player) _ (now (a .array)) (omega arith) (s .pre .2) (c .before .before .before .mark-byte .ensures) (l .inv .2) (written .ensures),
+    )
 
 same-length : tie.Need-same-length Inv-loop μ-loop
 same-length c = c .before .loop .inv .1
