@@ -155,8 +155,12 @@ part-of-key-stream s e c key nonce h =
 pub take-expand : (m n : ℕ) (seed : List ℕ) → m ≤ n → take m (expand n seed) ≡ expand m seed
 take-expand m n seed h = rw (expand-is n seed, expand-is m seed) (take-key-stream m n 0 seed (zeros 12) h)
 
-pub part-of-expand : (s e : ℕ) (seed : List ℕ) → s ≤ e → drop s (expand e seed) ≡ drop (s % 64) (key-stream (e - 64 * (s / 64)) (0 + s / 64) seed (zeros 12))
-part-of-expand s e seed h = rw (expand-is e seed) (part-of-key-stream s e 0 seed (zeros 12) h)
+pub part-of-expand : (s e : ℕ) (seed : List ℕ) → s ≤ e → drop s (expand e seed) ≡ drop (s % 64) (key-stream (e - 64 * (s / 64)) (s / 64) seed (zeros 12))
+part-of-expand s e seed h =
+    let first : 0 + s / 64 ≡ s / 64 = omega arith in
+    rw (expand-is e seed)
+    (subst (λ (c : ℕ). drop s (key-stream e 0 seed (zeros 12)) ≡ drop (s % 64) (key-stream (e - 64 * (s / 64)) c seed (zeros 12))) first
+    (part-of-key-stream s e 0 seed (zeros 12) h))
 
 -- WRITING the key stream block by block
 

@@ -1,4 +1,4 @@
--- RFC 8439's ChaCha20 by key, block counter and nonce, over document 03's rounds: the table of quarter rounds, the opening state, the
+-- RFC 8439's ChaCha20 by key, block counter and nonce, over document 03's rounds: quarter rounds by places, the opening state, the
 -- block function and the key stream. Document 03's `block` and `expand` are its instances with the nonce twelve zeros and the counter
 -- from 0: proofs/Stream.antt shows it. Assumes nothing: these are definitions.
 use mathlib.Core.List.{List, [], _∷_, _++_}
