@@ -41,7 +41,7 @@ pub struct Board {
 }
 
 // Whether a number lies in its range.
-fn within(low: u32, number: u32, high: u32) -> bool
+pub fn within(low: u32, number: u32, high: u32) -> bool
     ensures { λ r. ⌜ r ≡ (leb low number && leb number high) ⌝ }
 {
     if low <= number { number <= high } else { false }

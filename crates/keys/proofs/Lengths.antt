@@ -1,6 +1,6 @@
 -- How long numbers, headers and keys are. Assumes nothing.
 use mathlib.Core.Path.{_≡_, refl, ap}
-use Prim.Native.Nat.{ℕ, suc, _+_, _*_, _/_, _%_, _^_, _≤_, _<_}
+use Prim.Native.Nat.{ℕ, suc, _+_, _*_, _/_, _%_, _≤_, _<_}
 use native.Mathlib.Omega.{arith}
 use borrow.Author.Tests.{le-ltb}
 use lib.Dec.{ltb}
@@ -10,7 +10,8 @@ use lib.ListN.{length, length-append}
 use native.Mathlib.Nat.{mul-le-mul, mul-le-mul-right, le-trans}
 use Rattle.grid.specs.Grid.{Board, board-refusal, columns, grid-rows, row-long}
 use Rattle.grid.specs.Code.{board-of}
-use Rattle.grid.proofs.Facts.{board-in, columns-pos, columns-twice, columns-most}
+use Rattle.grid.proofs.Facts.{board-in, columns-pos, columns-most}
+use Rattle.grid.proofs.Sizes.{row-most}
 use Rattle.keys.specs.Keys.{groups, number-bytes, header, mark-bytes, stride}
 use Rattle.keys.specs.Answers.{header-written}
 use Rattle.keys.specs.declared.reader.Header.{Header}
@@ -71,11 +72,7 @@ header-short h e = omega (arith, header-most (board-of (h .board)) (h .player))
 -- THE SIZES OF AN ACCEPTED BOARD, so that no product overflows
 module _ (b : Board) (accepted : board-refusal b ≡ 0) where
   pub columns-in : (1 ≤ columns b) × (columns b ≤ 32)
-  columns-in =
-      let f = board-in b accepted in
-      let low : 0 < columns b = columns-pos b in
-      let twice : 2 ^ b .p ≡ 2 * columns b = columns-twice b f in
-      let most : 2 ^ b .p ≤ 64 = columns-most b f in (omega arith, omega arith)
+  columns-in = (columns-pos b, columns-most b (board-in b accepted))
 
   pub mark-bytes-in : (1 ≤ mark-bytes b) × (mark-bytes b ≤ 4)
   unfolding mark-bytes
@@ -92,7 +89,4 @@ module _ (b : Board) (accepted : board-refusal b ≡ 0) where
   row-in g h = le-trans (mul-le-mul-right (stride b) h) rows-in
 
   pub words-in : columns b * row-long b ≤ 131072
-  unfolding row-long
-  words-in =
-      let f = board-in b accepted in
-      let row : b .wide * b .w ≤ 4096 = mul-le-mul (f .wide-most) (f .value-most) in mul-le-mul (columns-in .1) row
+  words-in = mul-le-mul (columns-in .1) (row-most b (board-in b accepted))

@@ -34,11 +34,13 @@ pub fn check_key(key: &[u8]) -> KeyCheck
         return KeyCheck::Refused(REFUSED_NUMBER);
     };
     let board = header.board;
+    let players = board.players;
+    let player = header.player;
     let refusal = board.refusal();
     if refusal != 0 {
         return KeyCheck::Refused(refusal);
     }
-    if board.players <= header.player {
+    if players <= player {
         return KeyCheck::Refused(REFUSED_PLAYER);
     }
     if key.len() != key_length(board) {

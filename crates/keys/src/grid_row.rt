@@ -55,7 +55,8 @@ pub fn marks_between(part: &[u8], from: usize, until: usize) -> usize
     let mut count: usize = 0;
     let mut column = from;
     while column < until {
-        if mark(part, column) {
+        let marked = mark(part, column);
+        if marked {
             count += 1;
         }
         column += 1;

@@ -24,12 +24,14 @@ pub fn held_seed_place(key: &[u8], grid_row: u32, column: u32) -> usize
         return 0;
     }
     let place = column as usize;
-    if board.columns() <= place {
+    let columns = board.columns();
+    if columns <= place {
         return 0;
     }
     let from = grid_row_from(header, row);
     let part = part_from(key, from);
-    if !mark(part, place) {
+    let marked = mark(part, place);
+    if !marked {
         return 0;
     }
     from + seed_from(part, board, place)

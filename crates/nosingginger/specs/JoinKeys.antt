@@ -9,11 +9,13 @@ use Rattle.grid.specs.Grid.{Board, board-refusal, grid-rows}
 use Rattle.keys.specs.Keys.{Head, head-in, key-long, marks-good, table}
 use Rattle.nosingginger.specs.Entry.{or-else, rule, Put-says}
 
+-- a header's numbers behind 10: "1 to 5, 11"
+unfoldable pub numbers-refusal : Board → (player : ℕ) → ℕ
+numbers-refusal b i = cond (not (eqb (board-refusal b) 0)) (board-refusal b) (cond (leb (b .p) i) 11 0)
+
 -- a header's own numbers: "10, 1 to 5, 11"
 unfoldable pub head-refusal : Head → ℕ
-head-refusal h =
-    cond (not (h .good)) 10
-    (cond (not (eqb (board-refusal (h .board)) 0)) (board-refusal (h .board)) (cond (leb (h .board .p) (h .player)) 11 0))
+head-refusal h = cond (not (h .good)) 10 (numbers-refusal (h .board) (h .player))
 
 -- the four numbers of two boards are the same
 unfoldable pub same-board : (b c : Board) → Bool

@@ -41,7 +41,7 @@ returns-2 c =
 -- src/check.rt:42:9
 returns-3 : tie.Need-returns-3
 returns-3 c =
-    let e = c .before .before .before in
+    let e = c .before in
     let k = e .before .before .before in
     refused-player _ _ _ (sym (k .before .header .given .1) ∙ k .before .before .before .header-in .ensures) (sym (e .before .refusal .ensures) ∙ e .if1 .left) (c .if2 .taken)
 
@@ -53,7 +53,7 @@ key-length-requires c κs = search needs
 returns-4 : tie.Need-returns-4
 returns-4 c =
     let own = c .before .before in
-    let e = own .before .before .before in
+    let e = own .before in
     let k = e .before .before .before in
     refused-length _ _ _ (sym (k .before .header .given .1) ∙ k .before .before .before .header-in .ensures) (sym (e .before .refusal .ensures) ∙ e .if1 .left) (own .if2 .left) _ (c .before .key-length .ensures)
     (c .if3 .taken)
@@ -71,7 +71,7 @@ returns-5 : tie.Need-returns-5
 returns-5 c =
     let l = c .before .before .before in
     let own = l .before .before in
-    let e = own .before .before .before in
+    let e = own .before in
     let k = e .before .before .before in
     refused-marks _ _ _ (sym (k .before .header .given .1) ∙ k .before .before .before .header-in .ensures) (sym (e .before .refusal .ensures) ∙ e .if1 .left) (own .if2 .left) _ (l .before .key-length .ensures)
     (l .if3 .left) _ (c .before .before .part-from .ensures) _ (c .before .marks-good .ensures) (c .if4 .taken)
@@ -81,7 +81,7 @@ returns-6 : tie.Need-returns-6
 returns-6 c =
     let l = c .before .before .before in
     let own = l .before .before in
-    let e = own .before .before .before in
+    let e = own .before in
     let k = e .before .before .before in
     accepted-key _ _ _ (sym (k .before .header .given .1) ∙ k .before .before .before .header-in .ensures) (sym (e .before .refusal .ensures) ∙ e .if1 .left) (own .if2 .left) _ (l .before .key-length .ensures)
     (l .if3 .left) _ (c .before .before .part-from .ensures) _ (c .before .marks-good .ensures) (c .if4 .left)

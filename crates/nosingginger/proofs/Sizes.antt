@@ -1,0 +1,20 @@
+-- How long a key and a deal can be, so that a caller's numbers fit. Assumes nothing.
+use mathlib.Core.Path.{_≡_}
+use Prim.Native.Nat.{ℕ, _*_, _≤_}
+use native.Mathlib.Nat.{mul-le-mul}
+use native.Mathlib.Omega.{arith}
+use Rattle.grid.specs.Grid.{Board, board-refusal}
+use Rattle.grid.proofs.Facts.{board-in}
+use Rattle.keys.specs.Keys.{stride, key-long}
+use Rattle.keys.proofs.Lengths.{header-most, rows-in, words-in}
+
+module _ (b : Board) (accepted : board-refusal b ≡ 0) where
+  pub key-most : key-long b ≤ 263183
+  unfolding key-long stride
+  key-most = omega (arith, header-most b 0, rows-in b accepted, words-in b accepted)
+
+  pub keys-most : b .p * key-long b ≤ 1579098
+  keys-most = mul-le-mul (board-in b accepted .players-most) key-most
+
+  pub table-most : b .n * b .w ≤ 1048576
+  table-most = let f = board-in b accepted in mul-le-mul (f .positions-most) (f .value-most)

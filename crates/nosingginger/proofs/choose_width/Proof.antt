@@ -1,0 +1,68 @@
+-- `nosingginger::choose_width` meets its contract. Assumes nothing.
+use mathlib.Core.Path.{_≡_, sym, _∙_}
+use Rattle.grid.proofs.Refusing.{In, in-range, passed, failed}
+use Rattle.nosingginger.proofs.Answering.{width-refused-1, width-refused-2, width-given}
+use borrow.Author.Needs.{needs}
+use Rattle.nosingginger.proofs.choose_width.Statement.{statement}
+use Rattle.nosingginger.proofs.choose_width.Tie as tie
+use Rattle.nosingginger.proofs.choose_width.Reads as reads
+use Rattle.nosingginger.proofs.choose_width.Lts as lts
+use Rattle.grid.proofs.board.within.Reads as within-reads
+use Rattle.grid.proofs.width.choose_width.Reads as choose-width-reads
+use Rattle.nosingginger.proofs.accepted.Reads as accepted-reads
+use Rattle.nosingginger.proofs.refused.Reads as refused-reads
+
+-- what each test has shown where it was passed
+players-in : (c : tie.Else1) → In 2 (c .before .before .args .players) 6
+players-in c = passed (c .before .within .ensures) (c .if1 .left)
+
+positions-in : (c : tie.Else2) → In 1 (c .before .before .before .before .args .positions) 65536
+positions-in c = passed (c .before .within2 .ensures) (c .if2 .left)
+
+within-requires : tie.Need-within-requires
+within-requires c κs = search needs
+
+refused-requires : tie.Need-refused-requires
+refused-requires c κs = search needs
+
+returns : tie.Need-returns
+returns c =
+    width-refused-1 _ _ _ (failed (c .before .before .within .ensures) (c .before .if1 .taken)) (c .refused .ensures .0) (c .refused .ensures .1)
+
+within-requires-2 : tie.Need-within-requires-2
+within-requires-2 c κs = search needs
+
+refused-requires-2 : tie.Need-refused-requires-2
+refused-requires-2 c κs = search needs
+
+returns-2 : tie.Need-returns-2
+returns-2 c =
+    let a = c .before in
+    width-refused-2 _ _ _ (players-in (a .before .before)) (failed (a .before .within2 .ensures) (a .if2 .taken)) (c .refused2 .ensures .0) (c .refused2 .ensures .1)
+
+choose-width-requires : tie.Need-choose-width-requires
+choose-width-requires c κs =
+    let players = in-range _ _ _ (players-in (c .before .before)) in
+    let positions = in-range _ _ _ (positions-in c) in (players .0, players .1, positions .1)
+
+accepted-requires : tie.Need-accepted-requires
+accepted-requires c κs = search needs
+
+returns-3 : tie.Need-returns-3
+returns-3 c =
+    let a = c .before .before in
+    width-given _ _ _ (players-in (a .before .before)) (positions-in a) (c .accepted .ensures .0) (c .accepted .ensures .1 ∙ c .before .choose-width .ensures)
+
+pub choose-width-spec : {M : Type 1} → statement M
+choose-width-spec =
+    tie.close
+    (tie.spec
+    within-requires
+    refused-requires
+    returns
+    within-requires-2
+    refused-requires-2
+    returns-2
+    choose-width-requires
+    accepted-requires
+    returns-3)
