@@ -1,4 +1,5 @@
--- Text as bytes: decimal numbers, hexadecimal bytes and lines, as document 01's "Two programs" has them. Assumes nothing: these are definitions.
+-- Text as bytes: decimal numbers, hexadecimal bytes and lines, as document 01's "Two programs" has them, whose sentences are quoted.
+-- Assumes nothing: these are definitions.
 use mathlib.Core.Bool.{cond}
 use mathlib.Core.List.{List, [], _∷_, _++_}
 use Prim.Native.Nat.{ℕ, zero, suc, _+_, _*_, _/_, _%_}
@@ -10,7 +11,7 @@ unfoldable pub digits : (fuel v : ℕ) → List ℕ
 digits zero v = []
 digits (suc k) v = cond (ltb v 10) ((48 + v) ∷ []) (digits k (v / 10) ++ ((48 + v % 10) ∷ []))
 
--- "the position, unpadded": every number here is below 10^10
+-- "the position, unpadded": a number below 10^10, as every number of 32 bits is
 unfoldable pub decimal : ℕ → List ℕ
 decimal v = digits 10 v
 
@@ -40,13 +41,17 @@ text-width = 32 ∷ 119 ∷ 105 ∷ 100 ∷ 116 ∷ 104 ∷ 32 ∷ []
 abbrev pub line-feed : List ℕ
 line-feed = 10 ∷ []
 
+-- a word with its number behind it
+unfoldable pub named : (word : List ℕ) → (number : ℕ) → List ℕ
+named bs v = bs ++ decimal v
+
 -- "A refusal is the line `refused n`, the number alone."
 unfoldable pub refused-line : (refusal : ℕ) → List ℕ
-refused-line n = text-refused ++ decimal n ++ line-feed
+refused-line n = named text-refused n ++ line-feed
 
 -- "a line with p, N and w in the words shown below"
 unfoldable pub board-line : (p n w : ℕ) → List ℕ
-board-line p n w = text-players ++ decimal p ++ text-squares ++ decimal n ++ text-width ++ decimal w ++ line-feed
+board-line p n w = named text-players p ++ named text-squares n ++ named text-width w ++ line-feed
 
 -- "then a line for each position from 0 up: the position, unpadded, one space, and its value"
 unfoldable pub position-line : (a : ℕ) → (value : List ℕ) → List ℕ
