@@ -2,22 +2,20 @@
 // contract fixes the number, the value and every lent byte, of refused calls too. A refused call changes nothing that is lent.
 ghost use Rattle.nosingginger.specs.Entry.{Long-says, Join-says, Expand-says, Width-says, Sensor-says};
 ghost use mathlib.Core.Path.{_≡_};
-
-mod places;
 pub mod refusals;
+mod places;
 mod shares;
-
+pub use keys::check::KeyCheck;
+pub use keys::check::check_key;
+pub use keys::held::held_seed;
+pub use keys::reader::Header;
 use grid::board::Board;
 use grid::board::LEAST_PLAYERS;
 use grid::board::MOST_PLAYERS;
 use grid::board::MOST_POSITIONS;
 use grid::board::within;
 use grid::sensor::SENSORS;
-pub use keys::check::KeyCheck;
-pub use keys::check::check_key;
 use keys::grid_row::SEED_BYTES;
-pub use keys::held::held_seed;
-pub use keys::reader::Header;
 use refusals::ACCEPTED;
 use refusals::REFUSED_EXPANSION;
 use refusals::REFUSED_LENT;
@@ -37,19 +35,13 @@ pub struct Answer {
 fn refused(number: u32) -> Answer
     ensures { λ r. ⌜ (r .refusal ≡ number) × (r .value ≡ 0) ⌝ }
 {
-    Answer {
-        refusal: number,
-        value: 0,
-    }
+    Answer { refusal: number, value: 0 }
 }
 
 fn accepted(value: u32) -> Answer
     ensures { λ r. ⌜ (r .refusal ≡ 0) × (r .value ≡ value) ⌝ }
 {
-    Answer {
-        refusal: ACCEPTED,
-        value,
-    }
+    Answer { refusal: ACCEPTED, value }
 }
 
 // KEY LENGTH: 1 to 5; the bytes of each player's key.
