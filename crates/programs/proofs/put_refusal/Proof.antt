@@ -1,0 +1,35 @@
+-- `programs::put_refusal` meets its contract. Assumes nothing.
+use mathlib.Core.Path.{_≡_, refl, sym, ap, _∙_, subst}
+use Prim.Native.Nat.{ℕ, _+_, _*_, _-_, _≤_, _<_}
+use native.Mathlib.Omega.{arith}
+use lib.ListN.{length, take, drop}
+use denote.Ref.{now}
+use Rattle.text.specs.Text.{refused-line}
+use Rattle.programs.proofs.Writing.{writes-none, writes-wrote}
+use borrow.Author.Needs.{needs}
+use Rattle.programs.proofs.put_refusal.Statement.{statement}
+use Rattle.programs.proofs.put_refusal.Tie as tie
+use Rattle.programs.proofs.put_refusal.Reads as reads
+use Rattle.programs.proofs.put_refusal.Lts as lts
+use Rattle.text.proofs.put_refused_line.Reads as put-refused-line-reads
+use Rattle.text.proofs.refused_line_length.Reads as refused-line-length-reads
+
+refused-line-length-requires : tie.Need-refused-line-length-requires
+refused-line-length-requires c κs = search needs
+
+returns : tie.Need-returns
+returns c = writes-none (refused-line (c .before .before .before .args .refusal)) (now (c .before .before .before .args .output)) (omega arith)
+
+put-refused-line-requires : tie.Need-put-refused-line-requires
+put-refused-line-requires c κs = search needs
+
+same-length : tie.Need-same-length
+same-length c = search needs
+
+returns-2 : tie.Need-returns-2
+returns-2 c = writes-wrote (refused-line (c .before .before .before .before .before .before .before .args .refusal)) (omega arith) (c .before .before .put-refused-line .ensures)
+
+pub put-refusal-spec : {M : Type 1} → statement M
+put-refusal-spec =
+    tie.close
+    (tie.spec refused-line-length-requires returns put-refused-line-requires same-length returns-2)
