@@ -2,21 +2,23 @@
 use mathlib.Core.Path.{_≡_, refl, sym, ap, _∙_}
 use mathlib.Core.Bool.{Bool, true, false, cond}
 use mathlib.Core.List.{List, [], _∷_, _++_, append-assoc, append-nil}
-use Prim.Native.Nat.{ℕ, zero, suc, _+_, _*_, _-_, _/_, _%_, _^_, _≤_, _<_}
+use Prim.Native.Nat.{ℕ, zero, suc, _+_, _*_, _-_, _^_, _≤_, _<_}
 use native.Mathlib.Omega.{arith}
-use native.Mathlib.Nat.{add-zero, zero-add, lt-of-lt-of-le}
+use native.Mathlib.Nat.{lt-of-lt-of-le, mul-le-mul-right}
 use lib.Pow.{pow-mono}
 use native.Mathlib.Numerals.{add-one}
-use lib.ListN.{length, getD, take, drop, length-append, length-drop, drop-of-length-le, List·getD-eq-default}
+use lib.ListN.{length, getD, take, drop, length-append, drop-of-length-le, List·getD-eq-default}
 use lib.Dec.{leb}
-use lib.Seq.{drop-cons, drop-drop, drop-nil, take-suc, length-take-le}
+use lib.Seq.{drop-cons, drop-drop}
 use borrow.Author.Tests.{leb-true, leb-false}
-use Rattle.grid.specs.Grid.{Board, columns, bit}
+use Rattle.grid.specs.Grid.{Board, columns, grid-rows, bit}
+use Rattle.grid.proofs.Facts.{Board-in, columns-most}
 use Rattle.keys.specs.Keys.{packed-from, packed, held-seeds, mark-bytes, body-from}
 use Rattle.keys.proofs.Marks.{bit-nothing}
 use Rattle.writer.specs.Written.{Wrote}
 use Rattle.writer.proofs.Laws.{wrote-more}
 use Rattle.dealing.specs.Rows.{mark-digit, row-bytes}
+use Rattle.dealing.proofs.Cuts.{part-long, part-whole, rest-is, rest-long}
 
 -- MARKS PACKED
 
@@ -191,6 +193,29 @@ body-within k n b i cs ss h =
     ap (λ (m : ℕ). length (body-from m b i cs ss)) (sym all) ∙ ap length (body-split (k + 1) rest b i cs ss) ∙ length-append (body-from (k + 1) b i cs ss) behind
     ∙ ap (λ (l : List ℕ). length l + length behind) (body-snoc k b i cs ss) in
     omega (arith, length-append front row)
+
+-- grid row k as the code cuts it out
+pub row-here : (k J m player : ℕ) (b : Board) (arrays seeds : List ℕ) → J ≡ columns b → m ≡ mark-bytes b →
+    row-bytes m player (take (k * J + J - k * J) (drop (k * J) arrays)) (take (length seeds - 32 * (k * J)) (drop (32 * (k * J)) seeds)) ≡ row-at k b player arrays seeds
+unfolding row-at
+row-here k J m player b arrays seeds e f = rw (part-long (k * J) J, rest-is (32 * (k * J)) seeds, e, f)
+
+-- its array is there
+pub row-room : (k J n : ℕ) (b : Board) (arrays : List ℕ) → J ≡ columns b → n ≡ grid-rows b → k < n → length arrays ≡ grid-rows b * columns b → k * J + J ≤ length arrays
+row-room k J n b arrays e f h long =
+    let within : suc k ≤ grid-rows b = omega arith in
+    rw (e, long) (omega (arith, mul-le-mul-right (columns b) within))
+
+-- and its seeds
+pub row-seeds : (from J : ℕ) (arrays seeds : List ℕ) → from + J ≤ length arrays → length seeds ≡ 32 * length arrays →
+    32 * length (take (from + J - from) (drop from arrays)) ≤ length (take (length seeds - 32 * from) (drop (32 * from) seeds))
+row-seeds from J arrays seeds h long =
+    rw (part-whole from J arrays h) (rest-long (32 * from) (32 * J) seeds (omega arith))
+
+-- a grid row has at most five bytes of marks
+pub mark-bytes-most : (b : Board) → Board-in b → mark-bytes b ≤ 100
+unfolding mark-bytes
+mark-bytes-most b f = omega (arith, columns-most b f)
 
 -- writing one more
 pub rows-turn : (at k n player : ℕ) {next after : ℕ} (b : Board) (arrays seeds : List ℕ) {old between now : List ℕ} → k < n →

@@ -8,7 +8,7 @@ use Rattle.chacha20.specs.Expand.{expand}
 use Rattle.keys.specs.Keys.{Lent, header, body-from, rows-from, words-from, keys-from}
 
 -- the point, and "a lent input (value, arrays, seeds, words)"
-unfoldable pub lent : (point : ℕ) → (value arrays seeds words : List ℕ) → Lent
+abbrev pub lent : (point : ℕ) → (value arrays seeds words : List ℕ) → Lent
 lent a v cs ss ws = record { point = a; value = v; arrays = cs; seeds = ss; words = ws }
 
 -- "A row rule gives each 32-byte seed some μ × w bytes; expansion is one"

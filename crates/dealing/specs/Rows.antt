@@ -1,5 +1,5 @@
 -- What the writers of a grid row write, in the terms of document 03's `body-from`. Assumes nothing: these are definitions.
-use mathlib.Core.Bool.{Bool, cond}
+use mathlib.Core.Bool.{cond}
 use mathlib.Core.List.{List, _++_}
 use Prim.Native.Nat.{ℕ}
 use Rattle.grid.specs.Grid.{bit}

@@ -1,4 +1,4 @@
-// The header of a key: its five numbers in groups of seven bits.
+// The header of a key: its five numbers in groups of seven bits. Assumes nothing.
 ghost use Prim.Native.Nat.{_+_, _≤_, _<_};
 ghost use lib.ListN.{length};
 ghost use Rattle.grid.specs.Grid.{board};
@@ -7,7 +7,7 @@ ghost use Rattle.writer.specs.Written.{Wrote};
 use writer::put_byte;
 
 // Writes a number in groups of seven bits, lowest group first, in its shortest form.
-pub fn put_number(out: &mut [u8], at: usize, number: u32) -> usize
+fn put_number(out: &mut [u8], at: usize, number: u32) -> usize
     requires { ⌜ (number < 2097152) × (at + length (number-bytes number) ≤ length (now out)) ⌝ }
     ensures { λ r. ⌜ Wrote at (number-bytes number) r (now (out .entry)) (now (out .exit)) ⌝ }
 {

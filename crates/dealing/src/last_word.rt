@@ -1,5 +1,5 @@
 // The last correction word: the XOR of the piece, of the lent words, and of all rows of the point's grid row, so that all words and rows
-// there XOR to the piece.
+// there XOR to the piece. Assumes nothing.
 ghost use mathlib.Core.Path.{_≡_};
 ghost use mathlib.Core.List.{_++_};
 ghost use Prim.Native.Nat.{_+_, _*_, _-_, _≤_, _<_};
@@ -12,6 +12,7 @@ ghost use Rattle.keys.specs.Keys.{rows-from, words-from};
 ghost use Rattle.writer.specs.Written.{Wrote};
 ghost use Rattle.dealing.specs.Dealt.{rule, dealt-word};
 use grid::board::Board;
+use keys::grid_row::SEED_BYTES;
 
 // Writes the value from place `from` on, and zeros everywhere else.
 fn put_piece(out: &mut [u8], from: usize, value: &[u8])
@@ -46,12 +47,22 @@ fn xor_rows(out: &mut [u8], row: &mut [u8], count: usize, seeds: &[u8])
     let row_length = row.len();
     let mut column: usize = 0;
     while column < count {
-        let from = 32 * column;
-        let end = from + 32;
+        let from = SEED_BYTES * column;
+        let end = from + SEED_BYTES;
         chacha20::expand(&seeds[from..end], row);
         xor::xor_into(out, &row[..row_length]);
         column += 1;
     }
+}
+
+// The same, by way of one scratch row: no row is longer than 4,096 bytes.
+fn xor_expanded(out: &mut [u8], count: usize, seeds: &[u8])
+    requires { ⌜ (length (now out) ≤ 4096) × (32 * count ≤ length (now seeds)) ⌝ }
+    ensures { λ r. ⌜ now (out .exit) ≡ xor-all (rows-from count (expand (length (now (out .entry)))) (now (seeds .entry))) (now (out .entry)) ⌝ }
+{
+    let row_length = out.len();
+    let mut row = [0u8; 4096];
+    xor_rows(out, &mut row[..row_length], count, seeds);
 }
 
 // Fills `out` with the last word.
@@ -63,10 +74,8 @@ fn last_word(out: &mut [u8], board: Board, point: u32, value: &[u8], seeds: &[u8
     let cell = (point % board.width * board.value_bytes) as usize;
     put_piece(out, cell, value);
     xor_words(out, columns - 1, words);
-    let from = 32 * ((point / board.width) as usize * columns);
-    let row_length = board.row_length();
-    let mut row = [0u8; 4096];
-    xor_rows(out, &mut row[..row_length], columns, &seeds[from..]);
+    let from = SEED_BYTES * ((point / board.width) as usize * columns);
+    xor_expanded(out, columns, &seeds[from..]);
 }
 
 // Writes the last word from place `at` on.

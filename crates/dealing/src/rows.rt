@@ -1,8 +1,8 @@
-// The grid rows of a key: a player's marks, packed, and the seeds of the marked columns.
+// The grid rows of a key: a player's marks, packed, and the seeds of the marked columns. Assumes nothing.
 ghost use mathlib.Core.Path.{_≡_};
 ghost use mathlib.Core.Bool.{cond};
 ghost use mathlib.Core.List.{[]};
-ghost use Prim.Native.Nat.{_+_, _*_, _/_, _≤_, _<_};
+ghost use Prim.Native.Nat.{_+_, _*_, _≤_, _<_};
 ghost use lib.ListN.{length, getD, drop};
 ghost use Rattle.grid.specs.Grid.{bit, board-refusal, columns, grid-rows};
 ghost use Rattle.grid.specs.Code.{board-of};
@@ -10,11 +10,13 @@ ghost use Rattle.keys.specs.Keys.{packed-from, packed, held-seeds, body-from};
 ghost use Rattle.dealing.specs.Rows.{mark-digit, row-bytes};
 ghost use Rattle.writer.specs.Written.{Wrote};
 use grid::board::Board;
+use keys::grid_row::SEED_BYTES;
+use keys::grid_row::mark_bytes;
 use writer::put;
 use writer::put_byte;
 
 // Whether a column has a player's mark.
-pub fn marked(column: u8, player: u32) -> bool
+fn marked(column: u8, player: u32) -> bool
     requires { ⌜ player < 8 ⌝ }
     ensures { λ r. ⌜ r ≡ bit column player ⌝ }
 {
@@ -82,8 +84,8 @@ fn put_held(out: &mut [u8], at: usize, player: u32, array: &[u8], seeds: &[u8]) 
     let mut next = at;
     let mut column: usize = 0;
     while column < array.len() {
-        let from = 32 * column;
-        let end = from + 32;
+        let from = SEED_BYTES * column;
+        let end = from + SEED_BYTES;
         next = put_if(out, next, marked(array[column], player), &seeds[from..end]);
         column += 1;
     }
@@ -120,18 +122,17 @@ pub fn put_rows(
 {
     let columns = board.columns();
     let grid_rows = board.grid_rows();
-    let mark_bytes = (columns + 7) / 8;
     let mut next = at;
     let mut grid_row: usize = 0;
     while grid_row < grid_rows {
         let from = grid_row * columns;
         let end = from + columns;
-        let seed = 32 * from;
+        let seed = SEED_BYTES * from;
         next = put_row(
             out,
             next,
             player,
-            mark_bytes,
+            mark_bytes(board),
             &arrays[from..end],
             &seeds[seed..],
         );

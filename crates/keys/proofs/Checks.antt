@@ -1,6 +1,6 @@
 -- The chain of a key's refusals, 10, 1 to 5, 11, 12, 13: what each test answers, and what an accepted key keeps to.
 -- Assumes nothing.
-use mathlib.Core.Path.{_≡_, refl, sym, ap, _∙_}
+use mathlib.Core.Path.{_≡_, _∙_}
 use mathlib.Core.Bool.{Bool, true, false, not, cond}
 use mathlib.Core.List.{List, [], _∷_}
 use Prim.Native.Nat.{ℕ, _+_, _*_, _≤_, _<_}
@@ -11,7 +11,7 @@ use lib.ListN.{length, drop}
 use Rattle.grid.specs.Grid.{Board, board, board-refusal, columns, grid-rows, row-long}
 use Rattle.grid.specs.Code.{board-of}
 use Rattle.grid.proofs.Facts.{board-in}
-use Rattle.keys.specs.Keys.{header, mark-bytes, stride, head-in, key-long, marks-good, key-refusal}
+use Rattle.keys.specs.Keys.{header, stride, key-long, marks-good, key-refusal}
 use Rattle.keys.specs.Answers.{heading-in, head-numbers, checked-as, key-checked}
 use Rattle.keys.specs.declared.reader.Reader.{Reader}
 use Rattle.keys.specs.declared.reader.Header.{Header}

@@ -124,13 +124,13 @@ half-marked b l i t h g inside =
       good = arrays-split (grid-rows b) 0 b (l .point) (l .arrays) (t .arrays) g inside;
     }) i h)
 
-marks-append : (ms ns : List Bool) → marks-set (ms ++ ns) ≡ marks-set ms + marks-set ns
+pub marks-append : (ms ns : List Bool) → marks-set (ms ++ ns) ≡ marks-set ms + marks-set ns
 unfolding marks-set
 marks-append [] ns = omega arith
 marks-append (m ∷ ms) ns = omega (arith, marks-append ms ns)
 
 -- k grid rows of J marks, H of each set
-marks-total : (k J H : ℕ) (ms : List Bool) → ((g : ℕ) → g < k → marks-set (take J (drop (g * J) ms)) ≡ H) → marks-set (take (k * J) ms) ≡ k * H
+pub marks-total : (k J H : ℕ) (ms : List Bool) → ((g : ℕ) → g < k → marks-set (take J (drop (g * J) ms)) ≡ H) → marks-set (take (k * J) ms) ≡ k * H
 unfolding marks-set
 marks-total zero J H ms h = let none : zero * J ≡ zero = omega arith in rw none (omega arith)
 marks-total (suc k) J H ms h =
@@ -195,7 +195,7 @@ module _ (i m : ℕ) (cs : List ℕ) (rs : List (List ℕ)) (same : length cs �
       rw (held-cut i m cs rs same)
       (take-at (held-rows i (take m cs) (take m rs)) (held-rows i (drop m cs) (drop m rs)) (marks-set (take m (marks-of i cs))) held-front)
 
-  held-drop : drop (marks-set (take m (marks-of i cs))) (held-rows i cs rs) ≡ held-rows i (drop m cs) (drop m rs)
+  pub held-drop : drop (marks-set (take m (marks-of i cs))) (held-rows i cs rs) ≡ held-rows i (drop m cs) (drop m rs)
   held-drop =
       rw (held-cut i m cs rs same)
       (drop-at (held-rows i (take m cs) (take m rs)) (held-rows i (drop m cs) (drop m rs)) (marks-set (take m (marks-of i cs))) held-front)

@@ -1,18 +1,18 @@
 -- What an accepted key holds: where a grid row begins, and that a marked column's 32 bytes stand inside it.
 -- Assumes nothing.
-use mathlib.Core.Path.{_≡_, refl, sym, ap, subst, _∙_}
+use mathlib.Core.Path.{_≡_, refl, sym, ap, _∙_}
 use mathlib.Core.Bool.{Bool, true, false, _&&_, not, cond}
-use mathlib.Core.List.{List, [], _∷_, _++_}
+use mathlib.Core.List.{List, [], _∷_}
 use Prim.Native.Nat.{ℕ, zero, suc, _+_, _*_, _-_, _/_, _%_, _≤_, _<_}
 use native.Mathlib.Nat.{add-zero, zero-add, add-assoc, mul-le-mul-right}
 use native.Mathlib.Omega.{arith}
 use borrow.Author.Tests.{eq-eqb, ne-eqb, le-ltb, lt-ltb, ltb-true, eqb-true, not-true, not-false}
 use lib.Dec.{eqb, ltb}
-use lib.ListN.{length, getD, take, drop}
-use lib.Seq.{drop-at, drop-drop}
+use lib.ListN.{length, getD, take, drop, length-drop}
+use lib.Seq.{drop-at, drop-drop, length-take-le}
 use Rattle.xor.specs.Xor.{bytes-good}
-use Rattle.xor.proofs.Laws.{and-left, and-right, and-both}
-use Rattle.grid.specs.Grid.{Board, board, board-refusal, columns, grid-rows, row-long, bit}
+use Rattle.xor.proofs.Laws.{and-left, and-right}
+use Rattle.grid.specs.Grid.{Board, board, board-refusal, columns, grid-rows, bit}
 use Rattle.grid.specs.Code.{board-of}
 use Rattle.grid.proofs.Facts.{board-accepted, columns-pos}
 use Rattle.keys.specs.Keys.{header, mark-bytes, count-marks, stride, head-in, key-refusal, row-part}
@@ -78,7 +78,7 @@ count-split (suc k) m j ps =
     ∙ sym (add-assoc (cond (bit (getD ps (j / 8) 0) (j % 8)) 1 0) (count-marks k (suc j) ps) (count-marks m (j + suc k) ps)))
 
 -- a marked column leaves room for its own seed
-count-before : (ps : List ℕ) (j n : ℕ) → j < n → marked ps j ≡ true → suc (count-marks j 0 ps) ≤ count-marks n 0 ps
+pub count-before : (ps : List ℕ) (j n : ℕ) → j < n → marked ps j ≡ true → suc (count-marks j 0 ps) ≤ count-marks n 0 ps
 unfolding count-marks marked
 count-before ps j n h m =
     let rest = n - suc j in
@@ -174,6 +174,12 @@ module _ (ks : List ℕ) (g j : ℕ) where
       let from = length (header b (head-in ks .player)) + g * stride b in
       let seed = seed-from b (row-part b (head-in ks .rest) g) j in
       rw (place-held z, ← drop-drop seed from ks, ← row-place ks g good (key-in ks (s .none)))
+
+  -- what is held has 32 bytes
+  pub held-long : bytes-good ks ≡ true → (held-seed-place ks g j ≡ 0 → ⊥) → length (held-seed ks g j) ≡ 32
+  held-long good z =
+      rw (← seed-there good z)
+      (length-take-le 32 (drop (held-seed-place ks g j) ks) (omega (arith, place-inside z, length-drop (held-seed-place ks g j) ks)))
 
   -- THE WAYS OUT of the search for the place
   nowhere : holds ks g j ≡ false → 0 ≡ held-seed-place ks g j

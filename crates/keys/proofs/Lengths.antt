@@ -1,11 +1,11 @@
 -- How long numbers, headers and keys are. Assumes nothing.
-use mathlib.Core.Path.{_≡_, refl, ap}
+use mathlib.Core.Path.{_≡_, refl}
 use Prim.Native.Nat.{ℕ, suc, _+_, _*_, _/_, _%_, _≤_, _<_}
 use native.Mathlib.Omega.{arith}
 use borrow.Author.Tests.{le-ltb}
 use lib.Dec.{ltb}
 use mathlib.Core.Bool.{Bool, true, false, cond}
-use mathlib.Core.List.{List, [], _∷_}
+use mathlib.Core.List.{[], _∷_}
 use lib.ListN.{length, length-append}
 use native.Mathlib.Nat.{mul-le-mul, mul-le-mul-right, le-trans}
 use Rattle.grid.specs.Grid.{Board, board-refusal, columns, grid-rows, row-long}

@@ -14,3 +14,4 @@ pub mod Dealing
 pub mod Promise
 pub mod Document03
 pub mod Holding
+pub mod DealtSeeds

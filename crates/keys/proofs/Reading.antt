@@ -8,12 +8,12 @@ use native.Mathlib.Nat.{sub-zero}
 use native.Mathlib.Omega.{arith}
 use borrow.Author.Tests.{lt-ltb, le-ltb, ltb-true, ltb-false}
 use lib.Dec.{ltb}
-use lib.ListN.{length, getD, take, drop, length-drop, drop-of-length-le, List·getD-eq-default}
+use lib.ListN.{length, getD, drop, length-drop, drop-of-length-le, List·getD-eq-default}
 use lib.Seq.{drop-cons, drop-drop, drop-length, getD-drop}
 use Rattle.grid.specs.Grid.{Board, board}
 use Rattle.grid.specs.Code.{board-of}
 use Rattle.keys.specs.Keys.{Got, got, none-got, number-in, Head, head-of, head-in}
-use Rattle.keys.specs.Answers.{number-of, number-at, header-of, heading-in}
+use Rattle.keys.specs.Answers.{number-of, number-at, read-as, header-of, heading-in}
 use Rattle.keys.specs.declared.reader.Number.{Number}
 use Rattle.keys.specs.declared.reader.Reader.{Reader}
 use Rattle.keys.specs.declared.reader.Header.{Header}
@@ -171,6 +171,33 @@ read-broken ks at e = go (number-in (drop at ks) .good) refl
     go : (t : Bool) → number-in (drop at ks) .good ≡ t → number-in (drop at ks) .good ≡ false
     go true h = let z : _≡_ {A = ℕ} 0 1 = cc in absurd (omega arith)
     go false h = h
+
+-- so the answer, case by case, is document 03's reading of what stands there
+none-chosen : (s t u v : Bool) (x y z : ℕ) (bs : List ℕ)
+    → (cond s (got x (drop 1 bs)) (cond t (cond u (got y (drop 2 bs)) none-got) (cond v (got z (drop 3 bs)) none-got))) .good ≡ false
+    → none-got ≡ cond s (got x (drop 1 bs)) (cond t (cond u (got y (drop 2 bs)) none-got) (cond v (got z (drop 3 bs)) none-got))
+unfolding got
+none-chosen true t u v x y z bs e = let z : _≡_ {A = ℕ} 0 1 = cc in absurd (omega arith)
+none-chosen false true true v x y z bs e = let z : _≡_ {A = ℕ} 0 1 = cc in absurd (omega arith)
+none-chosen false true false v x y z bs e = refl
+none-chosen false false u true x y z bs e = let z : _≡_ {A = ℕ} 0 1 = cc in absurd (omega arith)
+none-chosen false false u false x y z bs e = refl
+
+none-there : (bs : List ℕ) → number-in bs .good ≡ false → none-got ≡ number-in bs
+unfolding number-in grouped
+none-there [] e = refl
+none-there (a ∷ bs) e =
+    rw number-in-is
+    (none-chosen (ltb a 128) (ltb (getD bs 0 0) 128) (ltb 0 (getD bs 0 0)) (ltb (getD bs 1 0) 128 && ltb 0 (getD bs 1 0)) _ _ _ (a ∷ bs)
+    (rw number-in-is at e))
+
+pub number-read : (ks : List ℕ) (at : ℕ) → read-as ks (number-at ks at) ≡ number-in (drop at ks)
+unfolding read-as
+number-read ks at = go (number-at ks at) refl
+  where
+    go : (r : Number) → r ≡ number-at ks at → read-as ks (number-at ks at) ≡ number-in (drop at ks)
+    go (Number.Whole v next) e = rw (← e) (sym (read-whole ks at v next e))
+    go Number.Broken e = rw (← e) (none-there (drop at ks) (read-broken ks at e))
 
 -- THE HEADER, number by number: each is read where the one before ended
 pub broken-first : (ks : List ℕ) → Number.Broken ≡ number-at ks 0 → head-in ks .good ≡ false

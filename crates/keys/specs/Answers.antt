@@ -1,14 +1,12 @@
 -- The answers of the readers and of the check of a key: what each case of an enum says, in document 03's words.
 -- Assumes nothing: these are definitions.
-use mathlib.Core.Path.{_≡_}
-use mathlib.Core.Bool.{Bool, true, false, cond}
+use mathlib.Core.Bool.{cond}
 use mathlib.Core.List.{List, [], _∷_}
 use Prim.Native.Nat.{ℕ, _-_}
 use lib.Dec.{eqb}
 use lib.ListN.{length, drop}
 use Rattle.grid.specs.Code.{board-of}
-use Rattle.keys.specs.Keys.{Got, number-in, header, Head, head-in, key-refusal}
-use Rattle.keys.specs.declared.reader.Reader.{Reader}
+use Rattle.keys.specs.Keys.{Got, got, none-got, number-in, header, Head, head-in, key-refusal}
 use Rattle.keys.specs.declared.reader.Number.{Number}
 use Rattle.keys.specs.declared.reader.Header.{Header}
 use Rattle.keys.specs.declared.reader.Heading.{Heading}
@@ -22,6 +20,11 @@ number-of l g =
 -- the number that stands at a place of a key
 unfoldable pub number-at : (key : List ℕ) → (at : ℕ) → Number
 number-at ks at = number-of (length ks) (number-in (drop at ks))
+
+-- each case of the reader's answer as document 03 has it: the number and what is left of the key, or none (refusal 10)
+unfoldable pub read-as : (key : List ℕ) → Number → Got
+read-as ks (Number.Whole v next) = got v (drop (next .at) ks)
+read-as ks Number.Broken = none-got
 
 -- "The header is p, player, N, μ, w"
 unfoldable pub header-of : Head → Header

@@ -1,12 +1,14 @@
 -- What a grid row of a key holds, in document 03's words: marks, and the seeds of marked columns.
 -- Assumes nothing: these are definitions.
-use mathlib.Core.Bool.{Bool, cond, _&&_}
+use mathlib.Core.Path.{_≡_}
+use mathlib.Core.Bool.{Bool, true, cond, _&&_}
 use mathlib.Core.List.{List, []}
-use Prim.Native.Nat.{ℕ, _+_, _*_, _-_, _/_, _%_}
+use Prim.Native.Nat.{ℕ, _+_, _*_, _-_, _/_, _%_, _<_}
 use lib.Dec.{ltb, eqb}
 use lib.ListN.{length, getD, take, drop}
-use Rattle.grid.specs.Grid.{Board, columns, grid-rows, bit}
-use Rattle.keys.specs.Keys.{header, head-in, mark-bytes, count-marks, spare-from, stride, key-refusal, row-part}
+use Rattle.grid.specs.Grid.{Board, columns, grid-rows, bit, column}
+use Rattle.keys.specs.Keys.{Lent, key, header, head-in, mark-bytes, count-marks, spare-from, stride, key-refusal, row-part}
+use Rattle.keys.specs.Promise.{Rule-good, lent-good}
 
 -- "column j is bit j mod 8 of byte j div 8"
 unfoldable pub marked : (part : List ℕ) → (column : ℕ) → Bool
@@ -42,3 +44,9 @@ held-seed-place ks g j =
     let h = head-in ks in
     let b = h .board in
     cond (holds ks g j) (length (header b (h .player)) + g * stride b + seed-from b (row-part b (h .rest) g) j) 0
+
+-- of a dealt key it is the seed lent for that grid row and column, where the column has the player's mark
+unfoldable pub Held-as-dealt : Type 0
+Held-as-dealt =
+    (b : Board) (f : List ℕ → List ℕ) (l : Lent) (i g j : ℕ) → lent-good b l ≡ true → Rule-good b f → i < b .p → g < grid-rows b → j < columns b →
+    held-seed (key b f l i) g j ≡ cond (bit (column b (l .arrays) g j) i) (take 32 (drop (32 * (g * columns b + j)) (l .seeds))) []

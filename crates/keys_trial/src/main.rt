@@ -34,7 +34,11 @@ fn answer_with(key: [u8; 79], at: usize, value: u8) -> u32
     answer(&other)
 }
 
+// " LOW-HIGH answer", behind a comma where it is not the line's first.
 fn print_run(low: usize, high: usize, refusal: u32) {
+    if 0 < low {
+        text(b",");
+    }
     text(b" ");
     number(low);
     if low < high {
@@ -49,11 +53,19 @@ fn print_run(low: usize, high: usize, refusal: u32) {
     }
 }
 
+fn begin_line(at: usize) {
+    number(at);
+    text(b":");
+}
+
+fn end_line() {
+    text(b"\n");
+}
+
 fn print_place(key: [u8; 79], at: usize)
     requires { ⌜ at < 79 ⌝ }
 {
-    number(at);
-    text(b":");
+    begin_line(at);
     let mut low: usize = 0;
     let mut run = answer_with(key, at, 0);
     let mut value: usize = 1;
@@ -61,14 +73,13 @@ fn print_place(key: [u8; 79], at: usize)
         let next = answer_with(key, at, value as u8);
         if next != run {
             print_run(low, value - 1, run);
-            text(b",");
             low = value;
             run = next;
         }
         value += 1;
     }
     print_run(low, 255, run);
-    text(b"\n");
+    end_line();
 }
 
 fn print_held(key: [u8; 79], grid_row: u32, column: u32) {
@@ -81,13 +92,15 @@ fn print_held(key: [u8; 79], grid_row: u32, column: u32) {
     text(b"\n");
 }
 
+fn print_grid_row(key: [u8; 79], grid_row: u32) {
+    print_held(key, grid_row, 0);
+    print_held(key, grid_row, 1);
+    print_held(key, grid_row, 2);
+}
+
+// The header, the two bytes of marks, and 7 for every byte of the seeds and words.
 fn sample() -> [u8; 79] {
-    let mut key = [0u8; 79];
-    let mut i: usize = 0;
-    while i < 79 {
-        key[i] = i as u8;
-        i += 1;
-    }
+    let mut key = [7u8; 79];
     key[0] = 2;
     key[1] = 0;
     key[2] = 6;
@@ -105,11 +118,7 @@ fn main() {
         print_place(key, at);
         at += 1;
     }
-    let mut grid_row: u32 = 0;
-    while grid_row < 3 {
-        print_held(key, grid_row, 0);
-        print_held(key, grid_row, 1);
-        print_held(key, grid_row, 2);
-        grid_row += 1;
-    }
+    print_grid_row(key, 0);
+    print_grid_row(key, 1);
+    print_grid_row(key, 2);
 }

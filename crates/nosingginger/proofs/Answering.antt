@@ -31,6 +31,10 @@ module _ (n : ℕ) (bs : List ℕ) (r : ℕ) (o z : List ℕ) where
   unfolding Put-says
   put-done h e f = rw h (e, f)
 
+-- a refusal by the number that the chain comes to
+pub put-number : (n m : ℕ) (bs o : List ℕ) → n ≡ m → (m ≡ 0 → ⊥) → Put-says n bs m o o
+put-number n m bs o e h = put-refused n bs m o o (λ z. h (sym e ∙ z)) (sym e) refl
+
 module _ (n v : ℕ) (r : Answer) where
   pub says-refused : (n ≡ 0 → ⊥) → r .refusal ≡ n → r .value ≡ 0 → says n v r
   unfolding says

@@ -2,8 +2,9 @@
 -- left where none fits. Assumes nothing.
 use mathlib.Core.Path.{_≡_, refl, sym, ap, _∙_, subst}
 use mathlib.Core.Bool.{Bool, true, false, _&&_, not, cond}
-use mathlib.Core.List.{List}
+use mathlib.Core.List.{List, _++_}
 use Prim.Native.Nat.{ℕ, zero, suc, _+_, _*_, _-_, _≤_, _<_}
+use native.Mathlib.Nat.{mul-le-mul-right}
 use native.Mathlib.Numerals.{add-one}
 use native.Mathlib.Omega.{arith}
 use borrow.Author.Tests.{eq-eqb, ne-eqb, le-leb, lt-leb, le-ltb, lt-ltb, eqb-true, eqb-false, leb-false, ltb-false, not-true, not-false}
@@ -13,16 +14,18 @@ use lib.Seq.{drop-drop, length-take-le}
 use Rattle.xor.proofs.Laws.{and-left, and-right}
 use Rattle.grid.specs.Grid.{Board, board, board-refusal, grid-rows}
 use Rattle.grid.specs.Code.{board-of}
+use Rattle.grid.proofs.Facts.{board-in}
 use Rattle.keys.specs.Keys.{head-in, key-long, marks-good, key-refusal}
 use Rattle.keys.specs.Answers.{heading-in}
 use Rattle.keys.specs.declared.reader.Reader.{Reader}
 use Rattle.keys.specs.declared.reader.Header.{Header}
 use Rattle.keys.specs.declared.reader.Heading.{Heading}
-use Rattle.keys.proofs.Accepted.{passed, last-passed, refusing}
+use Rattle.keys.proofs.Accepted.{passed, last-passed, refusing, key-accepted}
+use Rattle.keys.proofs.Checks.{long-is}
 use Rattle.keys.proofs.Reading.{heading-says, heading-none}
 use Rattle.nosingginger.specs.Entry.{or-else}
-use Rattle.nosingginger.specs.JoinKeys.{numbers-refusal, head-refusal, same-board, place-refusal, places-refusal, keys-refusal}
-use Rattle.nosingginger.proofs.Answering.{first-fits, next-fits}
+use Rattle.nosingginger.specs.JoinKeys.{numbers-refusal, head-refusal, same-board, place-refusal, places-refusal, keys-refusal, joined-table, Join-keys-says}
+use Rattle.nosingginger.proofs.Answering.{put-number, put-done, first-fits, next-fits, in-front-part}
 
 -- a number, or else the next: where neither fits
 pub neither : (a b : ℕ) → or-else a b ≡ 0 → (a ≡ 0) × (b ≡ 0)
@@ -89,6 +92,12 @@ module _ (b c : Board) where
       let right = and-right (p && n) (m && w) h in
       board-by (eqb-true (b .p) (c .p) (and-left p n left)) (eqb-true (b .n) (c .n) (and-right p n left)) (eqb-true (b .wide) (c .wide) (and-left m w right))
       (eqb-true (b .w) (c .w) (and-right m w right))
+
+pub both-same : (s t r : Bool) → r ≡ s → r ≡ true → t ≡ (s && t)
+both-same s t r e h = let yes : s ≡ true = sym e ∙ h in rw yes
+
+pub first-other : (s t r : Bool) → r ≡ s → r ≡ false → false ≡ (s && t)
+first-other s t r e h = let no : s ≡ false = sym e ∙ h in rw no
 
 -- ONE KEY AT ITS PLACE
 
@@ -163,11 +172,70 @@ module _ {p place at : ℕ} (b : Board) (bs : List ℕ) (before : Passed p b bs 
         rest = rw next (sym (next-fits (place-refusal b place (take (key-long b) (drop at bs))) _ (sym (key-part r e) ∙ z)) ∙ sym turn);
       }
 
+-- the next key stands among the keys
+pub key-inside : {p place at long : ℕ} (b : Board) (bs : List ℕ) → Passed p b bs place at → place < p → long ≡ key-long b → length bs ≡ p * key-long b → at + long ≤ length bs
+key-inside b bs before more k whole = omega (arith, before .here, mul-le-mul-right (key-long b) more)
+
 pub all-passed : {p place at : ℕ} (b : Board) (bs : List ℕ) → Passed p b bs place at → p ≤ place → 0 ≡ places-refusal p 0 b bs
 unfolding places-refusal
 all-passed {p} {place} b bs before h = let none : p - place ≡ 0 = omega arith in rw none at (before .rest)
 
+-- where none is refused, each key at its place is an accepted key of the first one's board
+pub place-accepted : (b : Board) (i : ℕ) (ks : List ℕ) → place-refusal b i ks ≡ 0 → length ks ≡ key-long b → (key-refusal ks ≡ 0) × (head-in ks .board ≡ b)
+unfolding place-refusal head-refusal
+place-accepted b i ks none long =
+    let h = head-in ks in
+    let both = neither (head-refusal h) _ none in
+    let read = passed (not (h .good)) 10 _ (λ t n. omega arith) (both .0) in
+    let own = numbers-fine (h .board) (h .player) (read .1) in
+    let here = passed (not (same-board (h .board) b && eqb (h .player) i)) 15 _ (λ t n. omega arith) (both .1) in
+    let same : h .board ≡ b = boards-same (h .board) b (and-left (same-board (h .board) b) (eqb (h .player) i) (not-false _ (here .0))) in
+    let marks = last-passed (marks-good (grid-rows b) b (h .rest)) 13 (omega arith) (here .1) in
+    let board = board-in (h .board) (own .0) in
+    let small : h .player < 128 = omega (arith, own .1, board .players-most) in (
+      key-accepted ks
+          (record {
+            header-good = not-false (h .good) (read .0);
+            board = board;
+            player = own .1;
+            long = long ∙ ap key-long (sym same) ∙ sym (long-is (h .board) (h .player) small);
+            marks = subst (λ (c : Board). marks-good (grid-rows c) c (h .rest) ≡ true) (sym same) marks;
+          }),
+      same,
+    )
+
+pub places-each : (k i : ℕ) (b : Board) (bs : List ℕ) → places-refusal k i b bs ≡ 0 → (m : ℕ) → m < k
+    → place-refusal b (i + m) (take (key-long b) (drop (m * key-long b) bs)) ≡ 0
+places-each zero i b bs none m h = let no : ⊥ = omega arith in absurd no
+places-each (suc k) i b bs none zero h =
+    let here : i + zero ≡ i = omega arith in
+    let first : zero * key-long b ≡ 0 = omega arith in
+    rw (here, first) (neither _ _ (sym (places-step k i b bs) ∙ none) .0)
+places-each (suc k) i b bs none (suc m) h =
+    let next : i + suc m ≡ suc i + m = omega arith in
+    let further : suc m * key-long b ≡ key-long b + m * key-long b = omega arith in
+    rw (next, further, ← (drop-drop (m * key-long b) (key-long b) bs))
+    (places-each k (suc i) b (drop (key-long b) bs) (neither _ _ (sym (places-step k i b bs) ∙ none) .1) m (omega arith))
+
+-- the key before `end`, counted from the last one down
+pub key-before : (b : Board) (bs : List ℕ) (p left long end : ℕ) → length bs ≡ p * key-long b → places-refusal p 0 b bs ≡ 0 → long ≡ key-long b
+    → 0 < left → left ≤ p → end ≡ left * long
+    → (key-refusal (take (end - (end - long)) (drop (end - long) bs)) ≡ 0) × (head-in (take (end - (end - long)) (drop (end - long) bs)) .board ≡ b)
+key-before b bs p zero long end whole none k pos le e = let no : ⊥ = omega arith in absurd no
+key-before b bs p (suc m) long end whole none k pos le e =
+    let room : suc m * key-long b ≤ p * key-long b = mul-le-mul-right (key-long b) le in
+    let last : end ≡ suc m * key-long b = rw k at e in
+    let wide : end - (end - long) ≡ key-long b = omega arith in
+    let start : end - long ≡ m * key-long b = omega arith in
+    rw (wide, start)
+    (place-accepted b (0 + m) (take (key-long b) (drop (m * key-long b) bs)) (places-each p 0 b bs none m (omega arith))
+    (length-take-le (key-long b) (drop (m * key-long b) bs) (rw length-drop (omega (arith, whole)))))
+
 -- THE WHOLE CHAIN
+
+pub keys-number : (bs : List ℕ) (room : ℕ) → Heading.Broken ≡ heading-in bs → keys-refusal bs room ≡ 10
+unfolding keys-refusal head-refusal or-else
+keys-number bs room e = rw (heading-none bs e)
 
 module _ (bs : List ℕ) (h : Header) (good : head-in bs .good ≡ true) (board-is : head-in bs .board ≡ board-of (h .board))
     (player-is : head-in bs .player ≡ h .player) (room : ℕ)
@@ -184,6 +252,23 @@ module _ (bs : List ℕ) (h : Header) (good : head-in bs .good ≡ true) (board-
     pub keys-numbers : (n : ℕ) → n ≡ numbers-refusal (board-of (h .board)) (h .player) → (n ≡ 0 → ⊥) → n ≡ keys-refusal bs room
     unfolding b
     keys-numbers n e z = e ∙ sym (first-fits (numbers-refusal (board-of (h .board)) (h .player)) _ (λ q. z (e ∙ q))) ∙ sym whole
+
+    -- what is left where none fits
+    pub keys-fit : keys-refusal bs room ≡ 0
+        → (board-refusal (board-of (h .board)) ≡ 0) × (length bs ≡ h .board .players * key-long (board-of (h .board)))
+        × (places-refusal (h .board .players) 0 (board-of (h .board)) bs ≡ 0) × (h .board .positions * h .board .«value_bytes» ≤ room)
+    unfolding b board
+    keys-fit none =
+        let own = neither (numbers-refusal b (h .player)) _ (sym whole ∙ none) in
+        let asked = h .board .players * key-long (board-of (h .board)) in
+        let long = passed (not (eqb (length bs) asked)) 12 _ (λ t n. omega arith) (own .1) in
+        let each = neither (places-refusal (h .board .players) 0 (board-of (h .board)) bs) _ (long .1) in
+        let last = passed (ltb room (h .board .positions * h .board .«value_bytes»)) 9 0 (λ t n. omega arith) (each .1) in (
+          numbers-fine (board-of (h .board)) (h .player) (own .0) .0,
+          eqb-true (length bs) asked (not-false (eqb (length bs) asked) (long .0)),
+          each .0,
+          ltb-false room (h .board .positions * h .board .«value_bytes») (last .0),
+        )
 
     module _ (fine : numbers-refusal (board-of (h .board)) (h .player) ≡ 0) (long : ℕ) (k : long ≡ key-long (board-of (h .board))) where
       behind : keys-refusal bs room
@@ -209,3 +294,25 @@ module _ (bs : List ℕ) (h : Header) (good : head-in bs .good ≡ true) (board-
 
           pub keys-none : h .board .positions * h .board .«value_bytes» ≤ room → 0 ≡ keys-refusal bs room
           keys-none z = sym (last ∙ rw (le-ltb room (h .board .positions * h .board .«value_bytes») z))
+
+-- WHAT JOIN KEYS SAYS
+
+pub heading-facts : (ks : List ℕ) (h : Header) (next : Reader) → Heading.Whole h next ≡ heading-in ks
+    → (head-in ks .good ≡ true) × (head-in ks .board ≡ board-of (h .board)) × (head-in ks .player ≡ h .player)
+heading-facts ks h next e =
+    let read = heading-says ks h next e in (ap (λ x. x .good) read, ap (λ x. x .board) read, ap (λ x. x .player) read)
+
+module _ (bs o : List ℕ) where
+  pub join-number-refused : Heading.Broken ≡ heading-in bs → Join-keys-says bs 10 o o
+  unfolding Join-keys-says
+  join-number-refused e = put-number _ 10 _ o (keys-number bs (length o) e) (λ z. omega arith)
+
+  pub join-refused : (r : ℕ) → r ≡ keys-refusal bs (length o) → (r ≡ 0 → ⊥) → Join-keys-says bs r o o
+  unfolding Join-keys-says
+  join-refused r e h = put-number _ r _ o (sym e) h
+
+  pub join-done : (h : Header) (last : List ℕ) (k : ℕ) → head-in bs .board ≡ board-of (h .board) → keys-refusal bs (length o) ≡ 0 → length last ≡ k
+      → last ≡ joined-table (h .board .players) (board-of (h .board)) bs → Join-keys-says bs 0 o (last ++ drop k o)
+  unfolding Join-keys-says board
+  join-done h last k board-is none long e =
+      put-done _ _ 0 o (last ++ drop k o) none refl (in-front-part _ last o k long (e ∙ rw board-is))

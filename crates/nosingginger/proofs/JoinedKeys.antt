@@ -1,7 +1,7 @@
 -- Join keys on any slice that it answers by 0, from its contract alone: the slice is p accepted keys of one board, each of K bytes, and what
 -- is written is the XOR of the tables that Open all leaves of each. Assumes nothing.
-use mathlib.Core.Path.{_≡_, refl, sym, ap, _∙_, subst}
-use mathlib.Core.Bool.{true, _&&_, not, cond}
+use mathlib.Core.Path.{_≡_, refl, sym, ap, _∙_}
+use mathlib.Core.Bool.{true, not, cond}
 use mathlib.Core.List.{List}
 use Prim.Native.Nat.{ℕ, zero, suc, _+_, _*_, _≤_, _<_}
 use native.Mathlib.Nat.{mul-le-mul-right}
@@ -11,57 +11,18 @@ use lib.ListN.{length, take, drop, length-drop}
 use lib.Seq.{drop-drop, length-take-le}
 use borrow.Author.Tests.{eqb-true, not-false}
 use Rattle.xor.specs.Xor.{bytes-good}
-use Rattle.xor.proofs.Laws.{Word, and-left, good-take, good-drop}
-use Rattle.grid.specs.Grid.{Board, grid-rows}
+use Rattle.xor.proofs.Laws.{Word, good-take, good-drop}
+use Rattle.grid.specs.Grid.{Board}
 use Rattle.grid.specs.Joining.{over}
 use Rattle.grid.proofs.Sums.{over-same, over-word}
-use Rattle.grid.proofs.Facts.{board-in}
-use Rattle.keys.specs.Keys.{key-long, key-refusal, head-in, table, marks-good}
-use Rattle.keys.proofs.Accepted.{passed, last-passed, key-accepted}
-use Rattle.keys.proofs.Checks.{long-is}
+use Rattle.keys.specs.Keys.{key-long, key-refusal, head-in, table}
+use Rattle.keys.proofs.Accepted.{passed}
 use Rattle.nosingginger.specs.Entry.{in-front, rule, Open-all-says}
-use Rattle.nosingginger.specs.JoinKeys.{head-refusal, same-board, place-refusal, places-refusal, keys-refusal, joined-table, Join-keys-says}
+use Rattle.nosingginger.specs.JoinKeys.{head-refusal, places-refusal, keys-refusal, joined-table, Join-keys-says}
 use Rattle.nosingginger.specs.Calls.{key-part}
-use Rattle.nosingginger.proofs.InTurn.{neither, numbers-fine, boards-same, places-step}
+use Rattle.nosingginger.proofs.InTurn.{neither, place-accepted, places-each}
 use Rattle.nosingginger.proofs.Putting.{room-there, answer-is, put, take-front}
 use Rattle.nosingginger.proofs.OpenedKey.{named-table-word, opened-table}
-
--- where none is refused, each key at its place is an accepted key of the first one's board
-place-accepted : (b : Board) (i : ℕ) (ks : List ℕ) → place-refusal b i ks ≡ 0 → length ks ≡ key-long b → (key-refusal ks ≡ 0) × (head-in ks .board ≡ b)
-unfolding place-refusal head-refusal
-place-accepted b i ks none long =
-    let h = head-in ks in
-    let both = neither (head-refusal h) _ none in
-    let read = passed (not (h .good)) 10 _ (λ t n. omega arith) (both .0) in
-    let own = numbers-fine (h .board) (h .player) (read .1) in
-    let here = passed (not (same-board (h .board) b && eqb (h .player) i)) 15 _ (λ t n. omega arith) (both .1) in
-    let same : h .board ≡ b = boards-same (h .board) b (and-left (same-board (h .board) b) (eqb (h .player) i) (not-false _ (here .0))) in
-    let marks = last-passed (marks-good (grid-rows b) b (h .rest)) 13 (omega arith) (here .1) in
-    let board = board-in (h .board) (own .0) in
-    let small : h .player < 128 = omega (arith, own .1, board .players-most) in (
-      key-accepted ks
-          (record {
-            header-good = not-false (h .good) (read .0);
-            board = board;
-            player = own .1;
-            long = long ∙ ap key-long (sym same) ∙ sym (long-is (h .board) (h .player) small);
-            marks = subst (λ (c : Board). marks-good (grid-rows c) c (h .rest) ≡ true) (sym same) marks;
-          }),
-      same,
-    )
-
-places-each : (k i : ℕ) (b : Board) (bs : List ℕ) → places-refusal k i b bs ≡ 0 → (m : ℕ) → m < k
-    → place-refusal b (i + m) (take (key-long b) (drop (m * key-long b) bs)) ≡ 0
-places-each zero i b bs none m h = let no : ⊥ = omega arith in absurd no
-places-each (suc k) i b bs none zero h =
-    let here : i + zero ≡ i = omega arith in
-    let first : zero * key-long b ≡ 0 = omega arith in
-    rw (here, first) (neither _ _ (sym (places-step k i b bs) ∙ none) .0)
-places-each (suc k) i b bs none (suc m) h =
-    let next : i + suc m ≡ suc i + m = omega arith in
-    let further : suc m * key-long b ≡ key-long b + m * key-long b = omega arith in
-    rw (next, further, ← (drop-drop (m * key-long b) (key-long b) bs))
-    (places-each k (suc i) b (drop (key-long b) bs) (neither _ _ (sym (places-step k i b bs) ∙ none) .1) m (omega arith))
 
 -- what is left of the chain where nothing is refused
 slice-fine : (bs : List ℕ) (room : ℕ) → keys-refusal bs room ≡ 0 →

@@ -2,26 +2,35 @@
 // contract fixes the number, the value and every lent byte, of refused calls too. A refused call changes nothing that is lent.
 ghost use Rattle.nosingginger.specs.Entry.{Long-says, Join-says, Expand-says, Width-says, Sensor-says};
 ghost use mathlib.Core.Path.{_≡_};
-pub mod refusals;
+
+mod lent;
 mod places;
+pub mod refusals;
 mod shares;
-pub use keys::check::KeyCheck;
-pub use keys::check::check_key;
-pub use keys::held::held_seed;
-pub use keys::reader::Header;
+mod square;
+mod tables;
+
 use grid::board::Board;
 use grid::board::LEAST_PLAYERS;
 use grid::board::MOST_PLAYERS;
 use grid::board::MOST_POSITIONS;
 use grid::board::within;
 use grid::sensor::SENSORS;
+pub use keys::check::KeyCheck;
+pub use keys::check::check_key;
 use keys::grid_row::SEED_BYTES;
+pub use keys::held::held_seed;
+pub use keys::reader::Header;
+pub use lent::deal;
 use refusals::ACCEPTED;
 use refusals::REFUSED_EXPANSION;
 use refusals::REFUSED_LENT;
 use refusals::REFUSED_PLAYERS;
 use refusals::REFUSED_POSITIONS;
 use refusals::REFUSED_SENSOR;
+pub use square::open_one;
+pub use tables::join_keys;
+pub use tables::open_all;
 
 // The most bytes of a row.
 pub const MOST_ROW_BYTES: usize = 4096;
@@ -35,13 +44,19 @@ pub struct Answer {
 fn refused(number: u32) -> Answer
     ensures { λ r. ⌜ (r .refusal ≡ number) × (r .value ≡ 0) ⌝ }
 {
-    Answer { refusal: number, value: 0 }
+    Answer {
+        refusal: number,
+        value: 0,
+    }
 }
 
 fn accepted(value: u32) -> Answer
     ensures { λ r. ⌜ (r .refusal ≡ 0) × (r .value ≡ value) ⌝ }
 {
-    Answer { refusal: ACCEPTED, value }
+    Answer {
+        refusal: ACCEPTED,
+        value,
+    }
 }
 
 // KEY LENGTH: 1 to 5; the bytes of each player's key.
@@ -58,7 +73,8 @@ pub fn key_length(players: u32, positions: u32, width: u32, value_bytes: u32) ->
     if refusal != ACCEPTED {
         return refused(refusal);
     }
-    accepted(keys::length::key_length(board) as u32)
+    let length = keys::length::key_length(board) as u32;
+    accepted(length)
 }
 
 // CHOOSE WIDTH: 1, 2; the least width whose square is at least positions times columns, or 256.

@@ -59,7 +59,11 @@ fn in_place(header: Header, board: Board, place: u32) -> bool
     ensures { λ r. ⌜ r ≡ (same-board (board-of («header» .board)) (board-of board) && eqb («header» .player) place) ⌝ }
 {
     let own = header.board;
-    if same_board(own, board) { header.player == place } else { false }
+    if same_board(own, board) {
+        header.player == place
+    } else {
+        false
+    }
 }
 
 // One key at its place: 10, 1 to 5, 11, 15, 13.

@@ -1,14 +1,14 @@
 // The refusal numbers of document 01 by name, in one place. The numbers of a board stand with boards, those of a key with keys.
 pub use grid::board::ACCEPTED;
+pub use grid::board::REFUSED_GRID_ROWS;
 pub use grid::board::REFUSED_PLAYERS;
 pub use grid::board::REFUSED_POSITIONS;
-pub use grid::board::REFUSED_WIDTH;
 pub use grid::board::REFUSED_VALUE_BYTES;
-pub use grid::board::REFUSED_GRID_ROWS;
-pub use keys::check::REFUSED_NUMBER;
-pub use keys::check::REFUSED_PLAYER;
+pub use grid::board::REFUSED_WIDTH;
 pub use keys::check::REFUSED_LENGTH;
 pub use keys::check::REFUSED_MARKS;
+pub use keys::check::REFUSED_NUMBER;
+pub use keys::check::REFUSED_PLAYER;
 
 // The point is none of the board's positions.
 pub const REFUSED_POINT: u32 = 6;

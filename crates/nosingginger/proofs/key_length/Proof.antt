@@ -30,8 +30,8 @@ returns c =
 key-length-requires : tie.Need-key-length-requires
 key-length-requires c κs = search needs
 
-cast-accepted : tie.Need-cast-accepted
-cast-accepted c =
+cast-length : tie.Need-cast-length
+cast-length c =
     let a = c .before in
     omega (arith, c .key-length .ensures, key-most _ (sym (a .before .refusal .ensures) ∙ a .if1 .left))
 
@@ -52,6 +52,6 @@ key-length-spec =
     refused-requires
     returns
     key-length-requires
-    cast-accepted
+    cast-length
     accepted-requires
     returns-2)

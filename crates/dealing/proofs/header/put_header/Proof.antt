@@ -37,43 +37,58 @@ five p i n m w {old} room P I N M W =
     let pinm = wrote-then (P′ ++ I′ ++ N′) M′ (omega (arith, length-append P′ I′, length-append (P′ ++ I′) N′)) pin M in
     wrote-then (P′ ++ I′ ++ N′ ++ M′) (number-bytes w) (omega (arith, length-append P′ I′, length-append (P′ ++ I′) N′, length-append (P′ ++ I′ ++ N′) M′)) pinm W
 
+-- the five numbers have their room
+room : (s : tie.Start) → let a = s .args in
+    a .at + (length (number-bytes (a .players)) + length (number-bytes (a .player)) + length (number-bytes (a .positions)) + length (number-bytes (a .width)) + length (number-bytes (a .value-bytes)))
+    ≤ length (now (a .out))
+room s =
+    let a = s .args in
+    omega (arith, s .pre .5, header-length (a .players) (a .player) (a .positions) (a .width) (a .value-bytes))
+
 put-number-requires : tie.Need-put-number-requires
 put-number-requires c κs =
-    let a = c .before .before .args in
-    let long = header-length (a .players) (a .player) (a .positions) (a .width) (a .value-bytes) in
-    (omega (arith, c .before .before .pre), omega (arith, long, c .before .before .pre .5))
+    let s = c .before .before in
+    (omega (arith, s .pre), omega (arith, room s))
 
 put-number-requires-2 : tie.Need-put-number-requires-2
 put-number-requires-2 c κs =
-    let a = c .before .before .before .before .before .before .args in
-    let long = header-length (a .players) (a .player) (a .positions) (a .width) (a .value-bytes) in
-    (omega (arith, c .before .before .before .before .before .before .pre), omega (arith, long, c .before .before .before .put-number .ensures .next-is, c .before .before .before .put-number .kept .0, c .before .before .before .before .before .before .pre .5))
+    let s = c .before .before .before .before .before .before in
+    let p = c .before .before .before .put-number in
+    (omega (arith, s .pre), omega (arith, room s, p .ensures .next-is, p .kept .0))
 
 put-number-requires-3 : tie.Need-put-number-requires-3
 put-number-requires-3 c κs =
-    let a = c .before .before .before .before .before .before .before .before .before .before .args in
-    let long = header-length (a .players) (a .player) (a .positions) (a .width) (a .value-bytes) in
-    (omega (arith, c .before .before .before .before .before .before .before .before .before .before .pre), omega (arith, long, c .before .before .before .before .before .before .before .put-number .ensures .next-is, c .before .before .before .before .before .before .before .put-number .kept .0, c .before .before .before .put-number2 .ensures .next-is, c .before .before .before .put-number2 .kept .0, c .before .before .before .before .before .before .before .before .before .before .pre .5))
+    let s = c .before .before .before .before .before .before .before .before .before .before in
+    let p = c .before .before .before .before .before .before .before .put-number in
+    let q = c .before .before .before .put-number2 in
+    (omega (arith, s .pre), omega (arith, room s, p .ensures .next-is, p .kept .0, q .ensures .next-is, q .kept .0))
 
 put-number-requires-4 : tie.Need-put-number-requires-4
 put-number-requires-4 c κs =
-    let a = c .before .before .before .before .before .before .before .before .before .before .before .before .before .before .args in
-    let long = header-length (a .players) (a .player) (a .positions) (a .width) (a .value-bytes) in
-    (omega (arith, c .before .before .before .before .before .before .before .before .before .before .before .before .before .before .pre), omega (arith, long, c .before .before .before .before .before .before .before .before .before .before .before .put-number .ensures .next-is, c .before .before .before .before .before .before .before .before .before .before .before .put-number .kept .0, c .before .before .before .before .before .before .before .put-number2 .ensures .next-is, c .before .before .before .before .before .before .before .put-number2 .kept .0, c .before .before .before .put-number3 .ensures .next-is, c .before .before .before .put-number3 .kept .0, c .before .before .before .before .before .before .before .before .before .before .before .before .before .before .pre .5))
+    let s = c .before .before .before .before .before .before .before .before .before .before .before .before .before .before in
+    let p = c .before .before .before .before .before .before .before .before .before .before .before .put-number in
+    let q = c .before .before .before .before .before .before .before .put-number2 in
+    let r = c .before .before .before .put-number3 in
+    (omega (arith, s .pre), omega (arith, room s, p .ensures .next-is, p .kept .0, q .ensures .next-is, q .kept .0, r .ensures .next-is, r .kept .0))
 
 put-number-requires-5 : tie.Need-put-number-requires-5
 put-number-requires-5 c κs =
-    let a = c .before .before .before .before .before .before .before .before .before .before .before .before .before .before .before .before .before .before .args in
-    let long = header-length (a .players) (a .player) (a .positions) (a .width) (a .value-bytes) in
-    (omega (arith, c .before .before .before .before .before .before .before .before .before .before .before .before .before .before .before .before .before .before .pre), omega (arith, long, c .before .before .before .before .before .before .before .before .before .before .before .before .before .before .before .put-number .ensures .next-is, c .before .before .before .before .before .before .before .before .before .before .before .before .before .before .before .put-number .kept .0, c .before .before .before .before .before .before .before .before .before .before .before .put-number2 .ensures .next-is, c .before .before .before .before .before .before .before .before .before .before .before .put-number2 .kept .0, c .before .before .before .before .before .before .before .put-number3 .ensures .next-is, c .before .before .before .before .before .before .before .put-number3 .kept .0, c .before .before .before .put-number4 .ensures .next-is, c .before .before .before .put-number4 .kept .0, c .before .before .before .before .before .before .before .before .before .before .before .before .before .before .before .before .before .before .pre .5))
+    let s = c .before .before .before .before .before .before .before .before .before .before .before .before .before .before .before .before .before .before in
+    let p = c .before .before .before .before .before .before .before .before .before .before .before .before .before .before .before .put-number in
+    let q = c .before .before .before .before .before .before .before .before .before .before .before .put-number2 in
+    let r = c .before .before .before .before .before .before .before .put-number3 in
+    let t = c .before .before .before .put-number4 in
+    (omega (arith, s .pre), omega (arith, room s, p .ensures .next-is, p .kept .0, q .ensures .next-is, q .kept .0, r .ensures .next-is, r .kept .0, t .ensures .next-is, t .kept .0))
 
 same-length : tie.Need-same-length
 same-length c = search needs
 
 returns : tie.Need-returns
 returns c =
-    let a = c .before .before .before .before .before .before .before .before .before .before .before .before .before .before .before .before .before .before .before .before .before .args in
-    five (a .players) (a .player) (a .positions) (a .width) (a .value-bytes) (c .before .before .before .before .before .before .before .before .before .before .before .before .before .before .before .before .before .before .before .before .before .pre .5) (c .before .before .before .before .before .before .before .before .before .before .before .before .before .before .before .before .before .before .put-number .ensures) (c .before .before .before .before .before .before .before .before .before .before .before .before .before .before .put-number2 .ensures) (c .before .before .before .before .before .before .before .before .before .before .put-number3 .ensures) (c .before .before .before .before .before .before .put-number4 .ensures) (c .before .before .put-number5 .ensures)
+    let s = c .before .before .before .before .before .before .before .before .before .before .before .before .before .before .before .before .before .before .before .before .before in
+    let a = s .args in
+    five (a .players) (a .player) (a .positions) (a .width) (a .value-bytes) (s .pre .5) (c .before .before .before .before .before .before .before .before .before .before .before .before .before .before .before .before .before .before .put-number .ensures) (c .before .before .before .before .before .before .before .before .before .before .before .before .before .before .put-number2 .ensures)
+    (c .before .before .before .before .before .before .before .before .before .before .put-number3 .ensures) (c .before .before .before .before .before .before .put-number4 .ensures) (c .before .before .put-number5 .ensures)
 
 pub put-header-spec : {M : Type 1} → statement M
 put-header-spec =

@@ -1,7 +1,7 @@
 -- `dealing::header::put_number` meets its contract: one, two or three groups, by the number's size. Assumes nothing.
-use mathlib.Core.Path.{_≡_, refl, sym, ap, _∙_, subst}
-use mathlib.Core.List.{List, [], _∷_, _++_}
-use Prim.Native.Nat.{ℕ, _+_, _*_, _/_, _%_, _≤_, _<_}
+use mathlib.Core.Path.{_≡_, refl, sym, ap, subst}
+use mathlib.Core.List.{List, [], _∷_}
+use Prim.Native.Nat.{ℕ, _+_, _/_, _%_, _≤_, _<_}
 use native.Mathlib.Omega.{arith}
 use mathlib.Core.Bool.{Bool, true, false}
 use lib.Dec.{ltb}
@@ -11,7 +11,7 @@ use denote.Ref.{now}
 use Rattle.keys.specs.Keys.{number-bytes}
 use Rattle.keys.proofs.Numbers.{one-group, two-groups, three-groups}
 use Rattle.writer.specs.Written.{Wrote}
-use Rattle.writer.proofs.Laws.{wrote-then, wrote-length}
+use Rattle.writer.proofs.Laws.{wrote-then}
 use borrow.Author.Needs.{needs}
 use Rattle.dealing.proofs.header.put_number.Statement.{statement}
 use Rattle.dealing.proofs.header.put_number.Tie as tie

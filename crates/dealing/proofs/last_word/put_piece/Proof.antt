@@ -1,4 +1,12 @@
+-- `dealing::last_word::put_piece` meets its contract. Assumes nothing.
+use mathlib.Core.Path.{ap, _∙_}
+use mathlib.Core.List.{List}
+use Prim.Native.Nat.{ℕ}
+use lib.ListN.{length}
+use denote.Ref.{now}
+use Rattle.writer.specs.Written.{written}
 use borrow.Author.Needs.{needs}
+use Rattle.dealing.proofs.LastWord.{piece-written}
 use Rattle.dealing.proofs.last_word.put_piece.Statement.{statement}
 use Rattle.dealing.proofs.last_word.put_piece.Tie as tie
 use Rattle.dealing.proofs.last_word.put_piece.Reads as reads
@@ -6,21 +14,21 @@ use Rattle.dealing.proofs.last_word.put_piece.Lts as lts
 use Rattle.writer.proofs.clear.Reads as clear-reads
 use Rattle.writer.proofs.put.Reads as put-reads
 
--- src/last_word.rt:21:5
 clear-requires : tie.Need-clear-requires
 clear-requires c κs = search needs
 
--- src/last_word.rt:22:5
 put-requires : tie.Need-put-requires
 put-requires c κs = search needs
 
--- src/last_word.rt:17:1
 same-length : tie.Need-same-length
 same-length c = search needs
 
--- src/last_word.rt:17:1
 returns : tie.Need-returns
-returns c = ?
+returns c =
+    let s = c .before .before .before .before .before .before .before .before .before .before in
+    let a = s .args in
+    c .before .before .put .ensures .now-is ∙ ap (λ (l : List ℕ). written (a .from) (now (a .value)) l) (c .before .before .before .before .before .before .clear .ensures)
+    ∙ piece-written (a .from) (length (now (a .out))) (now (a .value)) (s .pre)
 
 pub put-piece-spec : {M : Type 1} → statement M
 put-piece-spec = tie.close (tie.spec clear-requires put-requires same-length returns)

@@ -1,9 +1,9 @@
 -- `dealing::rows::mark_byte` meets its contract. The loop goes down from the last mark; its invariant: the byte packs the marks from the place on.
 -- Assumes nothing.
-use mathlib.Core.Path.{_≡_, refl, sym, ap, _∙_, subst}
+use mathlib.Core.Path.{_≡_, refl, _∙_}
 use mathlib.Core.Bool.{Bool, true, false, cond}
 use mathlib.Core.List.{List}
-use Prim.Native.Nat.{ℕ, suc, _+_, _*_, _-_, _^_, _≤_, _<_}
+use Prim.Native.Nat.{ℕ, suc, _+_, _*_, _-_, _≤_, _<_}
 use native.Mathlib.Omega.{arith}
 use native.Mathlib.Nat.{add-zero}
 use Rattle.grid.specs.Grid.{bit}
@@ -19,9 +19,9 @@ use Rattle.dealing.proofs.rows.mark_byte.Lts as lts
 use Rattle.dealing.proofs.rows.mark_digit.Reads as mark-digit-reads
 
 -- a digit is 0 or 1
-digit-small : (column player : ℕ) → mark-digit column player ≤ 1
+digit-small : {digit : ℕ} (column player : ℕ) → digit ≡ mark-digit column player → digit ≤ 1
 unfolding mark-digit
-digit-small column player = go (bit column player)
+digit-small column player is = rw is (go (bit column player))
   where
     go : (t : Bool) → cond t 1 0 ≤ 1
     go true = omega arith
@@ -64,7 +64,7 @@ add-byte : tie.Need-add-byte Inv-loop μ-loop
 add-byte c =
     let a = c .before .before .before .before .args in
     let l = c .before .before .loop in
-    omega (arith, packed-room (l .place) (a .player) (drop (a .from + l .place) (now (a .array))) (omega arith), digit-small (getD (now (a .array)) (a .from + (l .place - 1)) 0) (a .player))
+    omega (arith, packed-room (l .place) (a .player) (drop (a .from + l .place) (now (a .array))) (omega arith), digit-small _ _ (c .mark-digit .ensures))
 
 loop-less : tie.Need-loop-less Inv-loop μ-loop
 loop-less c = omega arith

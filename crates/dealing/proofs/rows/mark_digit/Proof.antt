@@ -1,11 +1,9 @@
 -- `dealing::rows::mark_digit` meets its contract. Assumes nothing.
-use mathlib.Core.Path.{_≡_, refl, sym, ap, _∙_}
-use mathlib.Core.Bool.{true, false, cond}
-use Prim.Native.Nat.{ℕ, _≤_}
+use mathlib.Core.Path.{sym, ap, _∙_}
+use Prim.Native.Nat.{ℕ}
 use native.Mathlib.Omega.{arith}
-use lib.ListN.{length, getD, List·getD-eq-default}
+use lib.ListN.{List·getD-eq-default}
 use denote.Ref.{now}
-use Rattle.grid.specs.Grid.{bit}
 use Rattle.keys.proofs.Marks.{bit-nothing}
 use Rattle.dealing.specs.Rows.{mark-digit}
 use borrow.Author.Needs.{needs}

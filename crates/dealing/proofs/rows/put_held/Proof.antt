@@ -1,5 +1,5 @@
 -- `dealing::rows::put_held` meets its contract. The loop's invariant: the seeds held of the columns before this one are written. Assumes nothing.
-use mathlib.Core.Path.{_≡_, refl, sym, ap, _∙_, subst}
+use mathlib.Core.Path.{_≡_, refl, _∙_, subst}
 use mathlib.Core.Bool.{Bool, cond}
 use mathlib.Core.List.{List, []}
 use Prim.Native.Nat.{ℕ, _+_, _*_, _-_, _≤_, _<_}
@@ -12,6 +12,7 @@ use Rattle.keys.specs.Keys.{held-seeds}
 use Rattle.writer.specs.Written.{Wrote}
 use Rattle.writer.proofs.Laws.{wrote-nothing}
 use borrow.Author.Needs.{needs}
+use Rattle.dealing.proofs.Cuts.{part-long}
 use Rattle.dealing.proofs.RowBytes.{held-within, held-turn}
 use Rattle.dealing.proofs.rows.put_held.Statement.{statement}
 use Rattle.dealing.proofs.rows.put_held.Tie as tie
@@ -20,17 +21,13 @@ use Rattle.dealing.proofs.rows.put_held.Lts as lts
 use Rattle.dealing.proofs.rows.marked.Reads as marked-reads
 use Rattle.dealing.proofs.rows.put_if.Reads as put-if-reads
 
--- a seed's place as the code counts it
-seed-part : (n : ℕ) → n + 32 - n ≡ 32
-seed-part n = omega arith
-
 -- the next seed has its room
 held-room : (column player at : ℕ) (held : Bool) {next : ℕ} (array seeds old : List ℕ) {between : List ℕ} → column < length array → 32 * length array ≤ length seeds →
     held ≡ bit (getD array column 0) player → at + length (held-seeds player array seeds) ≤ length old → length between ≡ length old →
     Wrote at (held-seeds player (take column array) seeds) next old between →
     next + length (cond held (take (32 * column + 32 - 32 * column) (drop (32 * column) seeds)) []) ≤ length between
 held-room column player at held array seeds old within enough is room same p =
-    rw (seed-part (32 * column), is) (omega (arith, p .next-is, held-within column player array seeds within))
+    rw (part-long (32 * column) 32, is) (omega (arith, p .next-is, held-within column player array seeds within))
 
 abbrev Inv-loop : tie.InvT-loop
 Inv-loop out₀ at player array seeds next₀ column₀ out next column =
@@ -86,7 +83,7 @@ loop-again c =
       omega arith,
       written .kept .0 ∙ l .inv .1,
       held-turn (a .at) (l .column) (a .player) (c .before .before .before .before .marked .result) (now (a .array)) (now (a .seeds)) (omega arith) (s .pre .2) (c .before .before .before .before .marked .ensures) (l .inv .2)
-          (rw (seed-part (32 * l .column)) at (written .ensures)),
+          (rw (part-long (32 * l .column) 32) at (written .ensures)),
     )
 
 same-length : tie.Need-same-length Inv-loop μ-loop

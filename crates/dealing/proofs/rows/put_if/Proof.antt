@@ -1,7 +1,7 @@
 -- `dealing::rows::put_if` meets its contract. Assumes nothing.
-use mathlib.Core.Path.{_≡_, sym, subst}
+use mathlib.Core.Path.{sym, subst}
 use mathlib.Core.Bool.{Bool, cond}
-use mathlib.Core.List.{List, []}
+use mathlib.Core.List.{[]}
 use Prim.Native.Nat.{_+_, _≤_}
 use lib.ListN.{length}
 use denote.Ref.{now}

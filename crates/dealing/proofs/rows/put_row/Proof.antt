@@ -1,10 +1,7 @@
 -- `dealing::rows::put_row` meets its contract: marks, and held seeds behind them. Assumes nothing.
-use Prim.Native.Nat.{ℕ, _+_, _*_, _≤_, _<_}
 use native.Mathlib.Omega.{arith}
-use lib.ListN.{length, length-append}
 use denote.Ref.{now}
 use Rattle.keys.specs.Keys.{packed, held-seeds}
-use Rattle.writer.specs.Written.{Wrote}
 use Rattle.writer.proofs.Laws.{wrote-then}
 use borrow.Author.Needs.{needs}
 use Rattle.dealing.specs.Rows.{row-bytes}

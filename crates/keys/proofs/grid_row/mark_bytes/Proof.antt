@@ -6,20 +6,14 @@ use Rattle.keys.proofs.Lengths.{columns-in}
 use borrow.Author.Needs.{needs}
 use Rattle.keys.proofs.grid_row.mark_bytes.Statement.{statement}
 use Rattle.keys.proofs.grid_row.mark_bytes.Tie as tie
-use Rattle.keys.proofs.grid_row.mark_bytes.Reads as reads
-use Rattle.keys.proofs.grid_row.mark_bytes.Lts as lts
-use Rattle.grid.proofs.board.Board.columns.Reads as columns-reads
 
--- src/grid_row.rt:21:6
 columns-requires : tie.Need-columns-requires
 columns-requires c κs = search needs
 
--- src/grid_row.rt:21:6
 add-result : tie.Need-add-result
 add-result c =
     let size = columns-in (board-of (c .before .args .board)) (c .before .pre) in omega arith
 
--- src/grid_row.rt:17:1
 returns : tie.Need-returns
 unfolding mark-bytes
 returns c = rw (c .columns .ensures)

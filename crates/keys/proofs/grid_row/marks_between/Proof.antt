@@ -11,9 +11,6 @@ use Rattle.keys.specs.Keys.{count-marks}
 use Rattle.keys.proofs.Counting.{count-turn, count-end}
 use Rattle.keys.proofs.grid_row.marks_between.Statement.{statement}
 use Rattle.keys.proofs.grid_row.marks_between.Tie as tie
-use Rattle.keys.proofs.grid_row.marks_between.Reads as reads
-use Rattle.keys.proofs.grid_row.marks_between.Lts as lts
-use Rattle.keys.proofs.grid_row.mark.Reads as mark-reads
 
 abbrev Inv-loop : tie.InvT-loop
 Inv-loop part from until count₀ column₀ count column =
@@ -22,27 +19,21 @@ Inv-loop part from until count₀ column₀ count column =
 abbrev μ-loop : tie.MeasureT-loop
 μ-loop part from until count₀ column₀ count column = until - column
 
--- src/grid_row.rt:34:5
 loop-holds : tie.Need-loop-holds Inv-loop μ-loop
 loop-holds c = (omega arith, zero-add _)
 
--- src/grid_row.rt:35:12
 mark-requires : tie.Need-mark-requires Inv-loop μ-loop
 mark-requires c κs = tt
 
--- src/grid_row.rt:36:13
 add-count : tie.Need-add-count Inv-loop μ-loop
 add-count c = omega arith
 
--- src/grid_row.rt:38:9
 add-column : tie.Need-add-column Inv-loop μ-loop
 add-column c = omega arith
 
--- src/grid_row.rt:34:5
 loop-less : tie.Need-loop-less Inv-loop μ-loop
 loop-less c = omega arith
 
--- src/grid_row.rt:34:5
 loop-again : tie.Need-loop-again Inv-loop μ-loop
 loop-again c =
     let l = c .before .before .before .loop in
@@ -53,7 +44,6 @@ loop-again c =
     (λ w. turn false (c .before .before .loop-test .taken) (sym m ∙ w .0 .left) (w .1 ∙ sym (add-zero (l .count))) (l .inv .0) (l .inv .1))
     (c .if1 .came)
 
--- src/grid_row.rt:29:1
 returns : tie.Need-returns Inv-loop μ-loop
 returns c =
     let l = c .before .loop in

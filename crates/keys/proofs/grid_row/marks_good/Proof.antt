@@ -8,12 +8,6 @@ use Rattle.keys.specs.Keys.{marks-good}
 use Rattle.keys.proofs.Counting.{rows-broken, rows-next, rows-done}
 use Rattle.keys.proofs.grid_row.marks_good.Statement.{statement}
 use Rattle.keys.proofs.grid_row.marks_good.Tie as tie
-use Rattle.keys.proofs.grid_row.marks_good.Reads as reads
-use Rattle.keys.proofs.grid_row.marks_good.Lts as lts
-use Rattle.grid.proofs.board.Board.grid_rows.Reads as grid-rows-reads
-use Rattle.keys.proofs.grid_row.part_from.Reads as part-from-reads
-use Rattle.keys.proofs.grid_row.row_fits.Reads as row-fits-reads
-use Rattle.keys.proofs.grid_row.stride.Reads as stride-reads
 
 abbrev Inv-loop : tie.InvT-loop
 Inv-loop body board row part₀ left₀ part left = marks-good left (board-of board) part ≡ marks-good (grid-rows (board-of board)) (board-of board) body
@@ -21,48 +15,38 @@ Inv-loop body board row part₀ left₀ part left = marks-good left (board-of bo
 abbrev μ-loop : tie.MeasureT-loop
 μ-loop body board row part₀ left₀ part left = left
 
--- src/grid_row.rt:94:9
 stride-requires : tie.Need-stride-requires Inv-loop μ-loop
 stride-requires c κs = c .before .pre
 
--- src/grid_row.rt:96:9
 grid-rows-requires : tie.Need-grid-rows-requires Inv-loop μ-loop
 grid-rows-requires c κs = c .before .before .pre
 
--- src/grid_row.rt:97:5
 loop-holds : tie.Need-loop-holds Inv-loop μ-loop
 loop-holds c = rw (c .grid-rows .ensures)
 
--- src/grid_row.rt:98:13
 row-fits-requires : tie.Need-row-fits-requires Inv-loop μ-loop
 row-fits-requires c κs = c .before .before .before .before .before .pre
 
--- src/grid_row.rt:99:13
 returns : tie.Need-returns Inv-loop μ-loop
 returns c =
     let k = c .before .before in
     rows-broken _ _ _ _ (k .before .loop .inv) _ (k .loop-test .taken) (c .before .row-fits .ensures) (c .if1 .taken)
 
--- src/grid_row.rt:101:13
 part-from-requires : tie.Need-part-from-requires Inv-loop μ-loop
 part-from-requires c κs = tt
 
--- src/grid_row.rt:103:9
 sub-left : tie.Need-sub-left Inv-loop μ-loop
 sub-left c = omega arith
 
--- src/grid_row.rt:97:5
 loop-less : tie.Need-loop-less Inv-loop μ-loop
 loop-less c = omega arith
 
--- src/grid_row.rt:97:5
 loop-again : tie.Need-loop-again Inv-loop μ-loop
 loop-again c =
     let k = c .before .before .before in
     rows-next _ _ _ _ (k .before .loop .inv) _ _ _ (k .loop-test .taken) (c .before .before .row-fits .ensures) (c .before .if1 .left)
     (k .before .before .before .stride .ensures) (c .part-from .ensures)
 
--- src/grid_row.rt:90:1
 returns-2 : tie.Need-returns-2 Inv-loop μ-loop
 returns-2 c = rows-done _ _ _ _ (c .before .loop .inv) (c .loop-test .left)
 

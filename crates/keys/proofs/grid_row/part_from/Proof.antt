@@ -8,32 +8,24 @@ use lib.Seq.{take-all}
 use borrow.Author.Needs.{needs}
 use Rattle.keys.proofs.grid_row.part_from.Statement.{statement}
 use Rattle.keys.proofs.grid_row.part_from.Tie as tie
-use Rattle.keys.proofs.grid_row.part_from.Reads as reads
-use Rattle.keys.proofs.grid_row.part_from.Lts as lts
 
--- src/grid_row.rt:17:28
 sub-result : tie.Need-sub-result
 sub-result c = search needs
 
--- src/grid_row.rt:17:28
 part-result-start : tie.Need-part-result-start
 part-result-start c = search needs
 
--- src/grid_row.rt:17:28
 part-result-end : tie.Need-part-result-end
 part-result-end c = search needs
 
--- src/grid_row.rt:17:50
 slice-aggregate-result : tie.Need-slice-aggregate-result
 slice-aggregate-result c = search needs
 
--- src/grid_row.rt:14:1
 returns : tie.Need-returns
 returns c =
     let a = c .before .before .args in
     take-all (length (now (a .key)) - a .from) (drop (a .from) (now (a .key))) (omega (arith, length-drop (a .from) (now (a .key))))
 
--- src/grid_row.rt:14:1
 returns-2 : tie.Need-returns-2
 returns-2 c =
     let a = c .before .before .args in

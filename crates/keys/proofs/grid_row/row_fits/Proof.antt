@@ -6,40 +6,28 @@ use Rattle.keys.proofs.Counting.{row-unfit, row-fit}
 use borrow.Author.Needs.{needs}
 use Rattle.keys.proofs.grid_row.row_fits.Statement.{statement}
 use Rattle.keys.proofs.grid_row.row_fits.Tie as tie
-use Rattle.keys.proofs.grid_row.row_fits.Reads as reads
-use Rattle.keys.proofs.grid_row.row_fits.Lts as lts
-use Rattle.grid.proofs.board.Board.columns.Reads as columns-reads
-use Rattle.keys.proofs.grid_row.mark_bytes.Reads as mark-bytes-reads
-use Rattle.keys.proofs.grid_row.marks_between.Reads as marks-between-reads
 
--- src/grid_row.rt:80:9
 columns-requires : tie.Need-columns-requires
 columns-requires c κs = search needs
 
--- src/grid_row.rt:81:9
 marks-between-requires : tie.Need-marks-between-requires
 marks-between-requires c κs = search needs
 
--- src/grid_row.rt:83:9
 returns : tie.Need-returns
 returns c =
     let k = c .before in row-unfit _ _ _ _ (k .before .columns .ensures) (k .marks-between .ensures) (c .if1 .taken)
 
--- src/grid_row.rt:85:20
 mark-bytes-requires : tie.Need-mark-bytes-requires
 mark-bytes-requires c κs = search needs
 
--- src/grid_row.rt:85:16
 mul-bits : tie.Need-mul-bits
 mul-bits c =
     let start = c .before .before .before .before .before in
     let size = mark-bytes-in (board-of (start .args .board)) (start .pre) in omega arith
 
--- src/grid_row.rt:86:5
 marks-between-requires-2 : tie.Need-marks-between-requires-2
 marks-between-requires-2 c κs = search needs
 
--- src/grid_row.rt:76:1
 returns-2 : tie.Need-returns-2
 returns-2 c =
     let k = c .before .before .before in

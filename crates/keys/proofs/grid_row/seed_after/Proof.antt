@@ -3,34 +3,25 @@ use native.Mathlib.Nat.{add-sub-cancel-left}
 use borrow.Author.Needs.{needs}
 use Rattle.keys.proofs.grid_row.seed_after.Statement.{statement}
 use Rattle.keys.proofs.grid_row.seed_after.Tie as tie
-use Rattle.keys.proofs.grid_row.seed_after.Reads as reads
-use Rattle.keys.proofs.grid_row.seed_after.Lts as lts
 
--- src/grid_row.rt:48:24
 mul-from : tie.Need-mul-from
 mul-from c = search needs
 
--- src/grid_row.rt:48:16
 add-from : tie.Need-add-from
 add-from c = search needs
 
--- src/grid_row.rt:49:17
 add-result : tie.Need-add-result
 add-result c = search needs
 
--- src/grid_row.rt:49:5
 sub-result : tie.Need-sub-result
 sub-result c = search needs
 
--- src/grid_row.rt:49:5
 part-result-start : tie.Need-part-result-start
 part-result-start c = search needs
 
--- src/grid_row.rt:49:5
 part-result-end : tie.Need-part-result-end
 part-result-end c = search needs
 
--- src/grid_row.rt:44:1
 returns : tie.Need-returns
 returns c = rw add-sub-cancel-left
 

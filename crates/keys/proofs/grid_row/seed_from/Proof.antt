@@ -7,30 +7,21 @@ use Rattle.keys.proofs.Counting.{count-short}
 use borrow.Author.Needs.{needs}
 use Rattle.keys.proofs.grid_row.seed_from.Statement.{statement}
 use Rattle.keys.proofs.grid_row.seed_from.Tie as tie
-use Rattle.keys.proofs.grid_row.seed_from.Reads as reads
-use Rattle.keys.proofs.grid_row.seed_from.Lts as lts
-use Rattle.keys.proofs.grid_row.mark_bytes.Reads as mark-bytes-reads
-use Rattle.keys.proofs.grid_row.marks_between.Reads as marks-between-reads
 
--- src/grid_row.rt:113:5
 mark-bytes-requires : tie.Need-mark-bytes-requires
 mark-bytes-requires c κs = search needs
 
--- src/grid_row.rt:113:38
 marks-between-requires : tie.Need-marks-between-requires
 marks-between-requires c κs = search needs
 
--- src/grid_row.rt:113:25
 mul-result : tie.Need-mul-result
 mul-result c = omega (arith, count-short _ _ (c .marks-between .ensures), columns-in _ (c .before .before .before .pre .0))
 
--- src/grid_row.rt:113:5
 add-result : tie.Need-add-result
 add-result c =
     let start = c .before .before .before in
     omega (arith, count-short _ _ (c .marks-between .ensures), columns-in _ (start .pre .0), mark-bytes-in _ (start .pre .0))
 
--- src/grid_row.rt:109:1
 returns : tie.Need-returns
 unfolding seed-from
 returns c = rw (c .marks-between .ensures, c .before .mark-bytes .ensures, sub-zero)

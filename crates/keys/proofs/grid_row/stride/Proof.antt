@@ -6,32 +6,23 @@ use Rattle.keys.proofs.Lengths.{columns-in, mark-bytes-in}
 use borrow.Author.Needs.{needs}
 use Rattle.keys.proofs.grid_row.stride.Statement.{statement}
 use Rattle.keys.proofs.grid_row.stride.Tie as tie
-use Rattle.keys.proofs.grid_row.stride.Reads as reads
-use Rattle.keys.proofs.grid_row.stride.Lts as lts
-use Rattle.grid.proofs.board.Board.columns.Reads as columns-reads
-use Rattle.keys.proofs.grid_row.mark_bytes.Reads as mark-bytes-reads
 
--- src/grid_row.rt:29:5
 mark-bytes-requires : tie.Need-mark-bytes-requires
 mark-bytes-requires c κs = search needs
 
--- src/grid_row.rt:29:30
 columns-requires : tie.Need-columns-requires
 columns-requires c κs = search needs
 
--- src/grid_row.rt:29:25
 mul-result : tie.Need-mul-result
 mul-result c =
     let size = columns-in (board-of (c .before .before .args .board)) (c .before .before .pre) in omega arith
 
--- src/grid_row.rt:29:5
 add-result : tie.Need-add-result
 add-result c =
     let start = c .before .before in
     let size = columns-in (board-of (start .args .board)) (start .pre) in
     let marks = mark-bytes-in (board-of (start .args .board)) (start .pre) in omega arith
 
--- src/grid_row.rt:25:1
 returns : tie.Need-returns
 unfolding stride
 returns c = rw (c .columns .ensures, c .before .mark-bytes .ensures)

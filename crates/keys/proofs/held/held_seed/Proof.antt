@@ -1,6 +1,6 @@
 -- `keys::held::held_seed` meets its contract: where the place is not 0, the 32 bytes there are the seed. Assumes nothing.
-use mathlib.Core.Path.{_≡_, sym, ap, _∙_}
-use Prim.Native.Nat.{ℕ, _+_, _≤_}
+use mathlib.Core.Path.{sym, _∙_}
+use Prim.Native.Nat.{_+_, _≤_}
 use native.Mathlib.Nat.{add-sub-cancel-left}
 use native.Mathlib.Omega.{arith}
 use denote.Ref.{now}
@@ -10,43 +10,32 @@ use Rattle.keys.proofs.Holding.{seed-none, place-inside, seed-there}
 use borrow.Author.Needs.{needs}
 use Rattle.keys.proofs.held.held_seed.Statement.{statement}
 use Rattle.keys.proofs.held.held_seed.Tie as tie
-use Rattle.keys.proofs.held.held_seed.Reads as reads
-use Rattle.keys.proofs.held.held_seed.Lts as lts
-use Rattle.keys.proofs.held.held_seed_place.Reads as held-seed-place-reads
 
 room : (c : tie.Else1) → c .before .held-seed-place .result + 32 ≤ length (now (c .before .before .before .args .key))
 room c =
     let e = c .before .held-seed-place .ensures in rw e (place-inside _ _ _ (λ z. c .if1 .left (e ∙ z)))
 
--- src/held.rt:42:9
 held-seed-place-requires : tie.Need-held-seed-place-requires
 held-seed-place-requires c κs = search needs
 
--- src/held.rt:44:9
 slice-aggregate-result : tie.Need-slice-aggregate-result
 slice-aggregate-result c = search needs
 
--- src/held.rt:44:9
 returns : tie.Need-returns
 returns c = seed-none _ _ _ (sym (c .before .before .held-seed-place .ensures) ∙ c .before .if1 .taken)
 
--- src/held.rt:46:16
 add-result : tie.Need-add-result
 add-result c = let inside = room c in omega arith
 
--- src/held.rt:46:5
 sub-result : tie.Need-sub-result
 sub-result c = search needs
 
--- src/held.rt:46:5
 part-result-start : tie.Need-part-result-start
 part-result-start c = search needs
 
--- src/held.rt:46:5
 part-result-end : tie.Need-part-result-end
 part-result-end c = room c
 
--- src/held.rt:39:1
 returns-2 : tie.Need-returns-2
 returns-2 c =
     let p = c .before .before in

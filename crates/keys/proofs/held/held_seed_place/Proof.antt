@@ -11,15 +11,6 @@ use Rattle.keys.proofs.Holding.{Accepted-as, accepted-says, board-fine,
 use borrow.Author.Needs.{needs}
 use Rattle.keys.proofs.held.held_seed_place.Statement.{statement}
 use Rattle.keys.proofs.held.held_seed_place.Tie as tie
-use Rattle.keys.proofs.held.held_seed_place.Reads as reads
-use Rattle.keys.proofs.held.held_seed_place.Lts as lts
-use Rattle.grid.proofs.board.Board.columns.Reads as columns-reads
-use Rattle.grid.proofs.board.Board.grid_rows.Reads as grid-rows-reads
-use Rattle.keys.proofs.check.check_key.Reads as check-key-reads
-use Rattle.keys.proofs.grid_row.mark.Reads as mark-reads
-use Rattle.keys.proofs.grid_row.part_from.Reads as part-from-reads
-use Rattle.keys.proofs.grid_row.seed_from.Reads as seed-from-reads
-use Rattle.keys.proofs.length.grid_row_from.Reads as grid-row-from-reads
 
 accepted : (c : tie.After-known-told) → Accepted-as (now (c .before .before .before .before .before .args .key)) (c .before .header .given .0 .0)
 accepted c = accepted-says _ _ (sym (ap checked-as (c .before .header .given .1)) ∙ c .before .before .before .check-key .ensures)
@@ -30,54 +21,42 @@ good c = good-by-entries (now (c .before .args .key)) (λ i _. c .shared-slice-k
 below : {x r y : ℕ} → r ≡ y → x < r → x ≤ y
 below e h = omega arith
 
--- src/held.rt:18:38
 check-key-requires : tie.Need-check-key-requires
 check-key-requires c κs = search needs
 
--- src/held.rt:18:28
 enum-known-header : tie.Need-enum-known-header
 enum-known-header c = search needs
 
--- src/held.rt:19:9
 enum-told : tie.Need-enum-told
 enum-told c = search needs
 
--- src/held.rt:19:9
 returns : tie.Need-returns
 returns c = no-key _ _ _ _ (sym (ap checked-as (c .enum-told .given .1)) ∙ c .before .before .check-key .ensures)
 
--- src/held.rt:23:8
 grid-rows-requires : tie.Need-grid-rows-requires
 grid-rows-requires c κs = board-fine _ _ (accepted (c .before))
 
--- src/held.rt:24:9
 returns-2 : tie.Need-returns-2
 returns-2 c = no-row _ _ _ _ (accepted (c .before .before .before)) _ (c .before .grid-rows .ensures) (c .if1 .taken)
 
--- src/held.rt:27:8
 columns-requires : tie.Need-columns-requires
 columns-requires c κs = board-fine _ _ (accepted (c .before .before .before))
 
--- src/held.rt:28:9
 returns-3 : tie.Need-returns-3
 returns-3 c =
     let e = c .before .before in
     no-column _ _ _ _ (accepted (e .before .before .before)) _ (e .before .grid-rows .ensures) (e .if1 .left) _ (c .before .columns .ensures) (c .if2 .taken)
 
--- src/held.rt:30:9
 grid-row-from-requires : tie.Need-grid-row-from-requires
 grid-row-from-requires c κs =
     let e = c .before .before in (board-fine _ _ (accepted (e .before .before .before)), below (e .before .grid-rows .ensures) (e .if1 .left))
 
--- src/held.rt:31:9
 part-from-requires : tie.Need-part-from-requires
 part-from-requires c κs = search needs
 
--- src/held.rt:32:9
 mark-requires : tie.Need-mark-requires
 mark-requires c κs = search needs
 
--- src/held.rt:33:9
 returns-4 : tie.Need-returns-4
 returns-4 c =
     let f = c .before .before .before .before in
@@ -86,14 +65,12 @@ returns-4 c =
     (good (e .before .before .before .before .before .before .before)) _ (c .before .before .before .grid-row-from .ensures) _
     (c .before .before .part-from .ensures) _ (c .before .mark .ensures) (c .if3 .taken)
 
--- src/held.rt:35:12
 seed-from-requires : tie.Need-seed-from-requires
 seed-from-requires c κs =
     let f = c .before .before .before .before in
     let e = f .before .before in
     (board-fine _ _ (accepted (e .before .before .before)), below (f .before .columns .ensures) (f .if2 .left))
 
--- src/held.rt:35:5
 add-result : tie.Need-add-result
 add-result c =
     let f = c .before .before .before .before .before in
@@ -101,7 +78,6 @@ add-result c =
     let short = place-short _ _ _ _ (board-fine _ _ (accepted (e .before .before .before))) (c .before .before .before .before .grid-row-from .ensures)
     (below (e .before .grid-rows .ensures) (e .if1 .left)) (c .seed-from .ensures) (below (f .before .columns .ensures) (f .if2 .left)) in omega arith
 
--- src/held.rt:15:1
 returns-5 : tie.Need-returns-5
 returns-5 c =
     let f = c .before .before .before .before .before in

@@ -6,27 +6,19 @@ use Rattle.keys.proofs.Lengths.{product-in, row-in, header-short}
 use borrow.Author.Needs.{needs}
 use Rattle.keys.proofs.length.grid_row_from.Statement.{statement}
 use Rattle.keys.proofs.length.grid_row_from.Tie as tie
-use Rattle.keys.proofs.length.grid_row_from.Reads as reads
-use Rattle.keys.proofs.length.grid_row_from.Lts as lts
-use Rattle.keys.proofs.grid_row.stride.Reads as stride-reads
-use Rattle.keys.proofs.length.header_length.Reads as header-length-reads
 
--- src/length.rt:53:5
 header-length-requires : tie.Need-header-length-requires
 header-length-requires c κs = search needs
 
--- src/length.rt:53:40
 stride-requires : tie.Need-stride-requires
 stride-requires c κs = search needs
 
--- src/length.rt:53:29
 mul-result : tie.Need-mul-result
 mul-result c =
     let start = c .before .before .before in
     let most = row-in (board-of (start .args .header .board)) (start .pre .0) (start .args .grid-row) (start .pre .1) in
     let room = product-in refl (c .stride .ensures) most in omega arith
 
--- src/length.rt:53:5
 add-result : tie.Need-add-result
 add-result c =
     let start = c .before .before .before in
@@ -34,7 +26,6 @@ add-result c =
     let room = product-in refl (c .stride .ensures) most in
     omega (arith, header-short _ (c .before .header-length .ensures))
 
--- src/length.rt:48:1
 returns : tie.Need-returns
 returns c = cc
 

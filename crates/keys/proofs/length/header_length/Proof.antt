@@ -8,47 +8,34 @@ use Rattle.keys.proofs.Lengths.{number-short, header-sum}
 use borrow.Author.Needs.{needs}
 use Rattle.keys.proofs.length.header_length.Statement.{statement}
 use Rattle.keys.proofs.length.header_length.Tie as tie
-use Rattle.keys.proofs.length.header_length.Reads as reads
-use Rattle.keys.proofs.length.header_length.Lts as lts
-use Rattle.keys.proofs.length.number_length.Reads as number-length-reads
 
--- src/length.rt:30:5
 number-length-requires : tie.Need-number-length-requires
 number-length-requires c κs = search needs
 
--- src/length.rt:31:11
 number-length-requires-2 : tie.Need-number-length-requires-2
 number-length-requires-2 c κs = search needs
 
--- src/length.rt:30:5
 add-result : tie.Need-add-result
 add-result c = omega (arith, number-short _ (c .number-length2 .ensures), number-short _ (c .before .number-length .ensures))
 
--- src/length.rt:32:11
 number-length-requires-3 : tie.Need-number-length-requires-3
 number-length-requires-3 c κs = search needs
 
--- src/length.rt:30:5
 add-result-2 : tie.Need-add-result-2
 add-result-2 c = omega (arith, number-short _ (c .number-length3 .ensures), number-short _ (c .before .number-length2 .ensures), number-short _ (c .before .before .number-length .ensures))
 
--- src/length.rt:33:11
 number-length-requires-4 : tie.Need-number-length-requires-4
 number-length-requires-4 c κs = search needs
 
--- src/length.rt:30:5
 add-result-3 : tie.Need-add-result-3
 add-result-3 c = omega (arith, number-short _ (c .number-length4 .ensures), number-short _ (c .before .number-length3 .ensures), number-short _ (c .before .before .number-length2 .ensures), number-short _ (c .before .before .before .number-length .ensures))
 
--- src/length.rt:34:11
 number-length-requires-5 : tie.Need-number-length-requires-5
 number-length-requires-5 c κs = search needs
 
--- src/length.rt:30:5
 add-result-4 : tie.Need-add-result-4
 add-result-4 c = omega (arith, number-short _ (c .number-length5 .ensures), number-short _ (c .before .number-length4 .ensures), number-short _ (c .before .before .number-length3 .ensures), number-short _ (c .before .before .before .number-length2 .ensures), number-short _ (c .before .before .before .before .number-length .ensures))
 
--- src/length.rt:26:1
 returns : tie.Need-returns
 unfolding header-written board
 returns c =

@@ -7,54 +7,38 @@ use Rattle.keys.proofs.Lengths.{product-in, rows-in, words-in, header-s
 use borrow.Author.Needs.{needs}
 use Rattle.keys.proofs.length.key_length.Statement.{statement}
 use Rattle.keys.proofs.length.key_length.Tie as tie
-use Rattle.keys.proofs.length.key_length.Reads as reads
-use Rattle.keys.proofs.length.key_length.Lts as lts
-use Rattle.grid.proofs.board.Board.columns.Reads as columns-reads
-use Rattle.grid.proofs.board.Board.grid_rows.Reads as grid-rows-reads
-use Rattle.grid.proofs.board.Board.row_length.Reads as row-length-reads
-use Rattle.keys.proofs.grid_row.stride.Reads as stride-reads
-use Rattle.keys.proofs.length.header_length.Reads as header-length-reads
 
--- src/length.rt:43:5
 header-length-requires : tie.Need-header-length-requires
 header-length-requires c κs = search needs
 
--- src/length.rt:43:29
 grid-rows-requires : tie.Need-grid-rows-requires
 grid-rows-requires c κs = search needs
 
--- src/length.rt:43:49
 stride-requires : tie.Need-stride-requires
 stride-requires c κs = search needs
 
--- src/length.rt:43:29
 mul-result : tie.Need-mul-result
 mul-result c =
     let start = c .before .before .before in
     let rows = product-in (c .before .grid-rows .ensures) (c .stride .ensures) (rows-in (board-of (start .args .board)) (start .pre)) in omega arith
 
--- src/length.rt:43:5
 add-result : tie.Need-add-result
 add-result c =
     let start = c .before .before .before in
     let rows = product-in (c .before .grid-rows .ensures) (c .stride .ensures) (rows-in (board-of (start .args .board)) (start .pre)) in
     omega (arith, header-short _ (c .before .before .header-length .ensures))
 
--- src/length.rt:43:65
 columns-requires : tie.Need-columns-requires
 columns-requires c κs = search needs
 
--- src/length.rt:43:83
 row-length-requires : tie.Need-row-length-requires
 row-length-requires c κs = search needs
 
--- src/length.rt:43:65
 mul-result-2 : tie.Need-mul-result-2
 mul-result-2 c =
     let start = c .before .before .before .before .before in
     let words = product-in (c .before .columns .ensures) (c .row-length .ensures) (words-in (board-of (start .args .board)) (start .pre)) in omega arith
 
--- src/length.rt:43:5
 add-result-2 : tie.Need-add-result-2
 add-result-2 c =
     let start = c .before .before .before .before .before in
@@ -64,7 +48,6 @@ add-result-2 c =
     let words = product-in (c .before .columns .ensures) (c .row-length .ensures) (words-in b (start .pre)) in
     omega (arith, header-short _ (k .before .before .header-length .ensures))
 
--- src/length.rt:38:1
 returns : tie.Need-returns
 unfolding key-long stride header-written
 returns c = cc

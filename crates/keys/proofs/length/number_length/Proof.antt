@@ -3,18 +3,13 @@ use mathlib.Core.Path.{sym}
 use Rattle.keys.proofs.Lengths.{one-long, two-long, three-long}
 use Rattle.keys.proofs.length.number_length.Statement.{statement}
 use Rattle.keys.proofs.length.number_length.Tie as tie
-use Rattle.keys.proofs.length.number_length.Reads as reads
-use Rattle.keys.proofs.length.number_length.Lts as lts
 
--- src/length.rt:11:9
 returns : tie.Need-returns
 returns c = sym (one-long _ (c .if1 .taken))
 
--- src/length.rt:14:9
 returns-2 : tie.Need-returns-2
 returns-2 c = sym (two-long _ (c .before .if1 .left) (c .if2 .taken))
 
--- src/length.rt:7:1
 returns-3 : tie.Need-returns-3
 returns-3 c = sym (three-long _ (c .if2 .left))
 

@@ -5,18 +5,13 @@ use lib.ListN.{List·getD-eq-default}
 use borrow.Author.Needs.{needs}
 use Rattle.keys.proofs.reader.byte.Statement.{statement}
 use Rattle.keys.proofs.reader.byte.Tie as tie
-use Rattle.keys.proofs.reader.byte.Reads as reads
-use Rattle.keys.proofs.reader.byte.Lts as lts
 
--- src/reader.rt:39:25
 shared-slice-read-result : tie.Need-shared-slice-read-result
 shared-slice-read-result c = search needs
 
--- src/reader.rt:36:1
 returns : tie.Need-returns
 returns c = search needs
 
--- src/reader.rt:36:1
 returns-2 : tie.Need-returns-2
 returns-2 c = sym (List·getD-eq-default (now (c .before .args .key)) 0 (c .if1 .left))
 

@@ -1,3 +1,7 @@
+-- `nosingginger::places::numbers_refusal` meets its contract: each answer is a link of the chain. Assumes nothing.
+use mathlib.Core.Path.{_≡_, sym, _∙_}
+use Rattle.grid.specs.Grid.{board}
+use Rattle.nosingginger.proofs.InTurn.{numbers-board, numbers-player, numbers-none}
 use borrow.Author.Needs.{needs}
 use Rattle.nosingginger.proofs.places.numbers_refusal.Statement.{statement}
 use Rattle.nosingginger.proofs.places.numbers_refusal.Tie as tie
@@ -5,21 +9,19 @@ use Rattle.nosingginger.proofs.places.numbers_refusal.Reads as reads
 use Rattle.nosingginger.proofs.places.numbers_refusal.Lts as lts
 use Rattle.grid.proofs.board.Board.refusal.Reads as refusal-reads
 
--- src/places.rt:31:9
 refusal-requires : tie.Need-refusal-requires
 refusal-requires c κs = search needs
 
--- src/places.rt:33:9
 returns : tie.Need-returns
-returns c = ?
+returns c = numbers-board _ _ _ (c .before .refusal .ensures) (c .if1 .taken)
 
--- src/places.rt:36:9
 returns-2 : tie.Need-returns-2
-returns-2 c = ?
+unfolding board
+returns-2 c = let e = c .before .before .before in numbers-player _ _ (sym (e .before .refusal .ensures) ∙ e .if1 .left) (c .if2 .taken)
 
--- src/places.rt:27:1
 returns-3 : tie.Need-returns-3
-returns-3 c = ?
+unfolding board
+returns-3 c = let e = c .before .before .before in numbers-none _ _ (sym (e .before .refusal .ensures) ∙ e .if1 .left) (c .if2 .left)
 
 pub numbers-refusal-spec : {M : Type 1} → statement M
 numbers-refusal-spec = tie.close (tie.spec refusal-requires returns returns-2 returns-3)

@@ -1,3 +1,6 @@
+-- `nosingginger::places::place_refusal` meets its contract: each answer is a link of the chain. Assumes nothing.
+use mathlib.Core.Path.{_≡_, sym, _∙_}
+use Rattle.nosingginger.proofs.InTurn.{place-number, place-numbers, place-other, place-marks, place-none}
 use borrow.Author.Needs.{needs}
 use Rattle.nosingginger.proofs.places.place_refusal.Statement.{statement}
 use Rattle.nosingginger.proofs.places.place_refusal.Tie as tie
@@ -9,53 +12,57 @@ use Rattle.keys.proofs.reader.header_in.Reads as header-in-reads
 use Rattle.nosingginger.proofs.places.in_place.Reads as in-place-reads
 use Rattle.nosingginger.proofs.places.numbers_refusal.Reads as numbers-refusal-reads
 
--- src/places.rt:70:42
 header-in-requires : tie.Need-header-in-requires
 header-in-requires c κs = search needs
 
--- src/places.rt:70:24
 enum-known-header : tie.Need-enum-known-header
 enum-known-header c = search needs
 
--- src/places.rt:71:9
 enum-told : tie.Need-enum-told
 enum-told c = search needs
 
--- src/places.rt:71:9
 returns : tie.Need-returns
-returns c = ?
+returns c = place-number _ _ _ (sym (c .enum-told .given .1) ∙ c .before .before .header-in .ensures)
 
--- src/places.rt:73:9
 numbers-refusal-requires : tie.Need-numbers-refusal-requires
 numbers-refusal-requires c κs = search needs
 
--- src/places.rt:75:9
 returns-2 : tie.Need-returns-2
-returns-2 c = ?
+returns-2 c =
+    let k = c .before .before in
+    place-numbers _ _ _ _ _ (sym (k .before .header .given .1) ∙ k .before .before .before .header-in .ensures) _ (c .before .numbers-refusal .ensures) (c .if1 .taken)
 
--- src/places.rt:77:9
 in-place-requires : tie.Need-in-place-requires
 in-place-requires c κs = search needs
 
--- src/places.rt:78:9
 returns-3 : tie.Need-returns-3
-returns-3 c = ?
+returns-3 c =
+    let e = c .before .before in
+    let k = e .before .before in
+    place-other _ _ _ _ _ (sym (k .before .header .given .1) ∙ k .before .before .before .header-in .ensures) (sym (e .before .numbers-refusal .ensures) ∙ e .if1 .left) _
+    (c .before .in-place .ensures) (c .if2 .taken)
 
--- src/places.rt:81:20
 part-from-requires : tie.Need-part-from-requires
 part-from-requires c κs = search needs
 
--- src/places.rt:81:9
 marks-good-requires : tie.Need-marks-good-requires
 marks-good-requires c κs = search needs
 
--- src/places.rt:82:9
 returns-4 : tie.Need-returns-4
-returns-4 c = ?
+returns-4 c =
+    let own = c .before .before .before in
+    let e = own .before .before in
+    let k = e .before .before in
+    place-marks _ _ _ _ _ (sym (k .before .header .given .1) ∙ k .before .before .before .header-in .ensures) (sym (e .before .numbers-refusal .ensures) ∙ e .if1 .left) _
+    (own .before .in-place .ensures) (own .if2 .left) _ (c .before .before .part-from .ensures) _ (c .before .marks-good .ensures) (c .if3 .taken)
 
--- src/places.rt:66:1
 returns-5 : tie.Need-returns-5
-returns-5 c = ?
+returns-5 c =
+    let own = c .before .before .before in
+    let e = own .before .before in
+    let k = e .before .before in
+    place-none _ _ _ _ _ (sym (k .before .header .given .1) ∙ k .before .before .before .header-in .ensures) (sym (e .before .numbers-refusal .ensures) ∙ e .if1 .left) _
+    (own .before .in-place .ensures) (own .if2 .left) _ (c .before .before .part-from .ensures) _ (c .before .marks-good .ensures) (c .if3 .left)
 
 pub place-refusal-spec : {M : Type 1} → statement M
 place-refusal-spec =

@@ -1,3 +1,13 @@
+-- `nosingginger::places::places_refusal` meets its contract. The loop's invariant: the keys before this place are passed. Assumes nothing.
+use mathlib.Core.Path.{_≡_, sym, _∙_}
+use Prim.Native.Nat.{ℕ, _+_, _*_, _-_, _≤_}
+use native.Mathlib.Omega.{arith}
+use lib.ListN.{length}
+use denote.Ref.{now}
+use borrow.Author.Needs.{needs}
+use Rattle.grid.specs.Grid.{board}
+use Rattle.grid.specs.Code.{board-of}
+use Rattle.nosingginger.proofs.InTurn.{Passed, none-passed, turn-refused, turn-passed, all-passed, key-inside}
 use Rattle.nosingginger.proofs.places.places_refusal.Statement.{statement}
 use Rattle.nosingginger.proofs.places.places_refusal.Tie as tie
 use Rattle.nosingginger.proofs.places.places_refusal.Reads as reads
@@ -6,58 +16,56 @@ use Rattle.keys.proofs.length.key_length.Reads as key-length-reads
 use Rattle.nosingginger.proofs.places.place_refusal.Reads as place-refusal-reads
 
 abbrev Inv-loop : tie.InvT-loop
-Inv-loop board keys long place₀ at₀ place at = ?
+Inv-loop board keys long place₀ at₀ place at = Passed (board .players) (board-of board) keys place at
 
 abbrev μ-loop : tie.MeasureT-loop
-μ-loop board keys long place₀ at₀ place at = ?
+μ-loop board keys long place₀ at₀ place at = board .players - place
 
--- src/places.rt:92:9
+-- the next key stands among the keys
+room : (c : tie.Then1 Inv-loop μ-loop) →
+    c .before .before .loop .at + c .before .before .before .key-length .result ≤ length (now (c .before .before .before .before .before .args .keys))
+room c =
+    let key = c .before .before .before in key-inside _ _ (c .before .before .loop .inv) (c .if1 .taken) (key .key-length .ensures) (key .before .before .pre .1)
+
 key-length-requires : tie.Need-key-length-requires Inv-loop μ-loop
-key-length-requires c κs = ?
+key-length-requires c κs = c .before .pre .0
 
--- src/places.rt:95:5
 loop-holds : tie.Need-loop-holds Inv-loop μ-loop
-loop-holds c = ?
+loop-holds c = none-passed _ _ _
 
--- src/places.rt:96:19
 add-end : tie.Need-add-end Inv-loop μ-loop
-add-end c = ?
+add-end c = omega (arith, room c)
 
--- src/places.rt:97:51
 sub-place-refusal : tie.Need-sub-place-refusal Inv-loop μ-loop
-sub-place-refusal c = ?
+sub-place-refusal c = omega arith
 
--- src/places.rt:97:51
 part-place-refusal-start : tie.Need-part-place-refusal-start Inv-loop μ-loop
-part-place-refusal-start c = ?
+part-place-refusal-start c = omega arith
 
--- src/places.rt:97:51
 part-place-refusal-end : tie.Need-part-place-refusal-end Inv-loop μ-loop
-part-place-refusal-end c = ?
+part-place-refusal-end c = room c
 
--- src/places.rt:97:13
 place-refusal-requires : tie.Need-place-refusal-requires Inv-loop μ-loop
-place-refusal-requires c κs = ?
+place-refusal-requires c κs = c .before .before .before .before .before .before .pre .0
 
--- src/places.rt:99:13
 returns : tie.Need-returns Inv-loop μ-loop
-returns c = ?
+returns c =
+    let t = c .before .before .before in
+    turn-refused _ _ (t .before .before .loop .inv) (t .if1 .taken) _ (t .before .before .before .key-length .ensures) _ (c .before .place-refusal .ensures) (c .if2 .taken)
 
--- src/places.rt:102:9
 add-place : tie.Need-add-place Inv-loop μ-loop
-add-place c = ?
+add-place c = omega arith
 
--- src/places.rt:95:5
 loop-less : tie.Need-loop-less Inv-loop μ-loop
-loop-less c = ?
+loop-less c = omega arith
 
--- src/places.rt:95:5
 loop-again : tie.Need-loop-again Inv-loop μ-loop
-loop-again c = ?
+loop-again c =
+    let t = c .before .before .before in
+    turn-passed _ _ (t .before .before .loop .inv) (t .if1 .taken) _ (t .before .before .before .key-length .ensures) _ (c .before .place-refusal .ensures) (c .if2 .left)
 
--- src/places.rt:88:1
 returns-2 : tie.Need-returns-2 Inv-loop μ-loop
-returns-2 c = ?
+returns-2 c = all-passed _ _ (c .before .before .loop .inv) (c .if1 .left)
 
 pub places-refusal-spec : {M : Type 1} → statement M
 places-refusal-spec =

@@ -1,23 +1,29 @@
+-- `nosingginger::places::same_board` meets its contract. Assumes nothing.
+use Rattle.grid.specs.Grid.{board}
+use Rattle.nosingginger.proofs.InTurn.{other-players, other-positions, other-width, same-but-bytes}
 use Rattle.nosingginger.proofs.places.same_board.Statement.{statement}
 use Rattle.nosingginger.proofs.places.same_board.Tie as tie
 use Rattle.nosingginger.proofs.places.same_board.Reads as reads
 use Rattle.nosingginger.proofs.places.same_board.Lts as lts
 
--- src/places.rt:46:9
 returns : tie.Need-returns
-returns c = ?
+unfolding board
+returns c = other-players _ _ (c .if1 .taken)
 
--- src/places.rt:49:9
 returns-2 : tie.Need-returns-2
-returns-2 c = ?
+unfolding board
+returns-2 c = other-positions _ _ (c .before .before .before .if1 .left) (c .if2 .taken)
 
--- src/places.rt:52:9
 returns-3 : tie.Need-returns-3
-returns-3 c = ?
+unfolding board
+returns-3 c =
+    let second = c .before .before .before in other-width _ _ (second .before .before .before .if1 .left) (second .if2 .left) (c .if3 .taken)
 
--- src/places.rt:42:1
 returns-4 : tie.Need-returns-4
-returns-4 c = ?
+unfolding board
+returns-4 c =
+    let third = c .before .before in
+    let second = third .before .before .before in same-but-bytes _ _ (second .before .before .before .if1 .left) (second .if2 .left) (third .if3 .left)
 
 pub same-board-spec : {M : Type 1} → statement M
 same-board-spec = tie.close (tie.spec returns returns-2 returns-3 returns-4)

@@ -3,81 +3,61 @@ use Rattle.keys.proofs.Reading.{broken-past, one-group, zero-second, tw
 use borrow.Author.Needs.{needs}
 use Rattle.keys.proofs.reader.Reader.number.Statement.{statement}
 use Rattle.keys.proofs.reader.Reader.number.Tie as tie
-use Rattle.keys.proofs.reader.Reader.number.Reads as reads
-use Rattle.keys.proofs.reader.Reader.number.Lts as lts
-use Rattle.keys.proofs.reader.byte.Reads as byte-reads
 
--- src/reader.rt:48:13
 returns : tie.Need-returns
 returns c = broken-past _ _ (c .if1 .taken)
 
--- src/reader.rt:50:21
 byte-requires : tie.Need-byte-requires
 byte-requires c κs = search needs
 
--- src/reader.rt:50:21
 cast-first : tie.Need-cast-first
 cast-first c = search needs
 
--- src/reader.rt:52:54
 add-t10 : tie.Need-add-t10
 add-t10 c = search needs
 
--- src/reader.rt:52:13
 returns-2 : tie.Need-returns-2
 returns-2 c =
     one-group _ _ _ (c .before .before .if1 .left) (c .before .byte .ensures) (c .if2 .taken)
 
--- src/reader.rt:54:32
 add-byte : tie.Need-add-byte
 add-byte c = search needs
 
--- src/reader.rt:54:22
 byte-requires-2 : tie.Need-byte-requires-2
 byte-requires-2 c κs = search needs
 
--- src/reader.rt:54:22
 cast-second : tie.Need-cast-second
 cast-second c = search needs
 
--- src/reader.rt:56:13
 returns-3 : tie.Need-returns-3
 returns-3 c =
     let k = c .before .before in
     zero-second _ _ _ (k .before .before .if1 .left) (k .before .byte .ensures) _ (k .if2 .left) (c .before .byte2 .ensures) (c .if3 .taken)
 
--- src/reader.rt:59:48
 mul-t13 : tie.Need-mul-t13
 mul-t13 c = search needs
 
--- src/reader.rt:59:34
 add-t14 : tie.Need-add-t14
 add-t14 c = search needs
 
--- src/reader.rt:59:75
 add-t15 : tie.Need-add-t15
 add-t15 c = search needs
 
--- src/reader.rt:59:13
 returns-4 : tie.Need-returns-4
 returns-4 c =
     let k = c .before .before .before in
     two-groups _ _ _ (k .before .before .if1 .left) (k .before .byte .ensures) _ (k .if2 .left) (c .before .before .byte2 .ensures)
     (c .before .if3 .left) (c .if4 .taken)
 
--- src/reader.rt:61:31
 add-byte-2 : tie.Need-add-byte-2
 add-byte-2 c = search needs
 
--- src/reader.rt:61:21
 byte-requires-3 : tie.Need-byte-requires-3
 byte-requires-3 c κs = search needs
 
--- src/reader.rt:61:21
 cast-third : tie.Need-cast-third
 cast-third c = search needs
 
--- src/reader.rt:63:13
 returns-5 : tie.Need-returns-5
 returns-5 c =
     let m = c .before .before in
@@ -85,27 +65,21 @@ returns-5 c =
     zero-third _ _ _ (k .before .before .if1 .left) (k .before .byte .ensures) _ (k .if2 .left) (m .before .before .byte2 .ensures)
     _ (m .if4 .left) (c .before .byte3 .ensures) (c .if5 .taken)
 
--- src/reader.rt:66:48
 mul-t19 : tie.Need-mul-t19
 mul-t19 c = search needs
 
--- src/reader.rt:66:34
 add-t20 : tie.Need-add-t20
 add-t20 c = search needs
 
--- src/reader.rt:66:71
 mul-t21 : tie.Need-mul-t21
 mul-t21 c = search needs
 
--- src/reader.rt:66:34
 add-t22 : tie.Need-add-t22
 add-t22 c = search needs
 
--- src/reader.rt:66:99
 add-t23 : tie.Need-add-t23
 add-t23 c = search needs
 
--- src/reader.rt:66:13
 returns-6 : tie.Need-returns-6
 returns-6 c =
     let m = c .before .before .before in
@@ -113,7 +87,6 @@ returns-6 c =
     three-groups _ _ _ (k .before .before .if1 .left) (k .before .byte .ensures) _ (k .if2 .left) (m .before .before .byte2 .ensures)
     _ (m .if4 .left) (c .before .before .byte3 .ensures) (c .before .if5 .left) (c .if6 .taken)
 
--- src/reader.rt:43:5
 returns-7 : tie.Need-returns-7
 returns-7 c =
     let m = c .before .before .before in

@@ -1,0 +1,2 @@
+-- The laws of the witnesses. Assumes nothing.
+pub mod Showing
