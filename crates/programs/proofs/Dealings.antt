@@ -3,7 +3,7 @@
 use mathlib.Core.Path.{_≡_, refl, sym, ap, _∙_, subst}
 use mathlib.Core.Bool.{Bool, true, false, _&&_, _||_, not, cond, false≢true}
 use mathlib.Core.List.{List, _++_}
-use Prim.Native.Nat.{ℕ, zero, suc, _+_, _*_, _-_, _≤_, _<_}
+use Prim.Native.Nat.{ℕ, _+_, _*_, _-_, _≤_, _<_}
 use native.Mathlib.Omega.{arith}
 use native.Mathlib.Nat.{mul-le-mul}
 use lib.Dec.{ltb, leb, eqb}
@@ -15,20 +15,20 @@ use Rattle.xor.proofs.Laws.{and-left, and-right, good-take, good-drop}
 use Rattle.grid.specs.Grid.{Board, board, board-refusal, columns, grid-rows, row-long, arrays-good}
 use Rattle.grid.proofs.Facts.{board-in}
 use Rattle.grid.proofs.Sizes.{columns-few, row-most}
-use Rattle.keys.specs.Keys.{number-in, Head, head-of, head-in, Lent, key-long, deal-refusal}
-use Rattle.keys.specs.Answers.{heading-in, header-of}
+use Rattle.keys.specs.Keys.{head-of, head-in, Lent, key-long, deal-refusal}
+use Rattle.keys.specs.Answers.{heading-in}
 use Rattle.keys.specs.declared.reader.Reader.{Reader}
 use Rattle.keys.specs.declared.reader.Header.{Header}
 use Rattle.keys.specs.declared.reader.Heading.{Heading}
 use Rattle.keys.proofs.Reading.{heading-says, heading-none}
 use Rattle.keys.proofs.Accepted.{passed, last-passed, refusing}
-use Rattle.nosingginger.specs.Entry.{or-else, in-front, lent, rule, Put-says, Deal-says}
+use Rattle.nosingginger.specs.Entry.{or-else, lent, Put-says, Deal-says}
 use Rattle.nosingginger.proofs.Answering.{first-fits, next-fits}
 use Rattle.nosingginger.proofs.InTurn.{neither}
 use Rattle.nosingginger.proofs.Putting.{room-there, answer-is, put, untouched}
 use Rattle.nosingginger.proofs.DealtKeys.{lent-accepted, keys-length}
 use Rattle.text.specs.Text.{refused-line}
-use Rattle.programs.specs.Programs.{Writes, Input, input-in, asked-bytes, lent-in, asked-refusal, lent-refusal, dealing-refusal, keys-of, dealing-output, dealt-output, Deals}
+use Rattle.programs.specs.Programs.{Writes, input-in, asked-bytes, lent-in, asked-refusal, lent-refusal, dealing-refusal, keys-of, dealing-output, dealt-output, Deals}
 use Rattle.programs.proofs.Writing.{writes-none, writes-all, put-front}
 
 -- what is cut from a place to the end

@@ -1,34 +1,33 @@
 -- The laws of the joining program: its numbers are Join keys' with a room of 65,536 bytes, but for inputs that are longer than any.
 -- Assumes nothing.
 use mathlib.Core.Path.{_≡_, refl, sym, ap, _∙_, subst}
-use mathlib.Core.Bool.{Bool, true, false, _||_, not, cond}
+use mathlib.Core.Bool.{Bool, true, false}
 use mathlib.Core.List.{List, _++_}
-use Prim.Native.Nat.{ℕ, zero, suc, _*_, _≤_, _<_}
+use Prim.Native.Nat.{ℕ, _*_, _≤_, _<_}
 use native.Mathlib.Omega.{arith}
-use lib.Dec.{ltb, leb, eqb}
+use lib.Dec.{ltb, leb}
 use lib.ListN.{length, take, drop, replicate, length-replicate}
 use lib.Seq.{length-take-le}
-use borrow.Author.Tests.{lt-ltb, le-ltb, le-leb, lt-leb, ltb-true, ltb-false, eqb-true, ne-eqb}
+use borrow.Author.Tests.{lt-ltb, le-ltb, le-leb, lt-leb, ltb-true, ltb-false, ne-eqb}
 use Rattle.xor.specs.Xor.{bytes-good}
-use Rattle.grid.specs.Grid.{Board, board, board-refusal}
+use Rattle.grid.specs.Grid.{Board, board}
 use Rattle.grid.specs.Code.{board-of}
 use Rattle.grid.proofs.Facts.{board-in}
-use Rattle.keys.specs.Keys.{head-in, Head, key-long}
+use Rattle.keys.specs.Keys.{head-in, Head}
 use Rattle.keys.specs.Answers.{heading-in}
 use Rattle.keys.specs.declared.reader.Reader.{Reader}
 use Rattle.keys.specs.declared.reader.Header.{Header}
 use Rattle.keys.specs.declared.reader.Heading.{Heading}
 use Rattle.keys.proofs.Reading.{heading-says, heading-none}
-use Rattle.keys.proofs.Accepted.{passed}
 use Rattle.nosingginger.specs.Entry.{or-else, in-front, Put-says}
-use Rattle.nosingginger.specs.JoinKeys.{numbers-refusal, head-refusal, places-refusal, keys-refusal, joined-table, Join-keys-says}
+use Rattle.nosingginger.specs.JoinKeys.{numbers-refusal, head-refusal, keys-refusal, joined-table, Join-keys-says}
 use Rattle.nosingginger.proofs.Answering.{first-fits, next-fits, put-refused, put-done}
 use Rattle.nosingginger.proofs.InTurn.{neither, numbers-fine}
 use Rattle.nosingginger.proofs.Putting.{answer-is, put, untouched, take-front}
 use Rattle.nosingginger.proofs.JoinedKeys.{Joined, joined-says, joined-word}
 use Rattle.text.specs.Text.{refused-line, table-text}
 use Rattle.programs.specs.Programs.{Writes, joining-refusal, joined, joining-output, Joins}
-use Rattle.programs.proofs.Writing.{put-front}
+use Rattle.programs.proofs.Writing.{put-front, writes-within}
 
 -- THE FIRST KEY'S OWN NUMBERS, OR ELSE 12
 
@@ -146,6 +145,11 @@ module _ (bs : List ℕ) (r : ℕ) (t u : List ℕ) (enough : 65536 ≤ length t
 pub joins-none : (bs t o : List ℕ) → length t < 65536 → Joins (leb 65536 (length t)) bs 0 t t o o
 unfolding Joins
 joins-none bs t o h = rw (lt-leb 65536 (length t) h) (refl, refl, refl)
+
+pub joins-within : (enough : Bool) (bs : List ℕ) (r : ℕ) (t u o z : List ℕ) → Joins enough bs r t u o z → r ≤ length o
+unfolding Joins
+joins-within true bs r t u o z says = writes-within (joining-output bs) r o z (says .0) .0
+joins-within false bs r t u o z says = omega (arith, says .0)
 
 -- the header of an accepted input, as the code has it
 module _ (bs : List ℕ) (h : Header) (next : Reader) (read : Heading.Whole h next ≡ heading-in bs) where

@@ -1,12 +1,14 @@
 -- What a program's function says where its bytes have room and where they have none, and of a front part that is lent on. Assumes nothing.
 use mathlib.Core.Path.{_≡_, refl, sym, ap, _∙_, subst}
+use mathlib.Core.Bool.{Bool, true, false, cond}
 use mathlib.Core.List.{List, _++_, append-assoc}
 use Prim.Native.Nat.{ℕ, zero, suc, _≤_, _<_}
 use native.Mathlib.Omega.{arith}
 use native.Mathlib.Nat.{zero-add}
-use lib.ListN.{length, take, drop, take-append-drop}
+use lib.Dec.{ltb}
+use lib.ListN.{length, take, drop, length-append, length-drop, take-append-drop}
 use lib.Seq.{length-take-le, drop-append-le}
-use borrow.Author.Tests.{lt-ltb, le-ltb}
+use borrow.Author.Tests.{lt-ltb, le-ltb, ltb-false}
 use Rattle.writer.specs.Written.{Wrote}
 use Rattle.writer.proofs.Laws.{written-front}
 use Rattle.nosingginger.specs.Entry.{in-front, Put-says}
@@ -41,3 +43,14 @@ unfolding Put-says in-front
 put-front zero bs r k o last within room p =
     (p .0, ap (λ (l : List ℕ). l ++ drop k o) (p .1) ∙ append-assoc bs (drop (length bs) (take k o)) (drop k o) ∙ ap (λ (l : List ℕ). bs ++ l) (front-behind (length bs) k o (room refl) within))
 put-front (suc n) bs r k o last within room p = (p .0, ap (λ (l : List ℕ). l ++ drop k o) (p .1) ∙ take-append-drop k o)
+
+-- no more is written than there is room for
+pub writes-within : (bs : List ℕ) (r : ℕ) (o z : List ℕ) → Writes bs r o z → (r ≤ length o) × (length z ≡ length o)
+unfolding Writes in-front
+writes-within bs r o z w = go (ltb (length o) (length bs)) refl (w .0) (w .1)
+  where
+    go : (t : Bool) → ltb (length o) (length bs) ≡ t → r ≡ cond t 0 (length bs) → z ≡ cond t o (bs ++ drop (length bs) o) → (r ≤ length o) × (length z ≡ length o)
+    go true e p q = (omega arith, ap length q)
+    go false e p q =
+        let room = ltb-false (length o) (length bs) e in
+        (omega arith, ap length q ∙ length-append bs (drop (length bs) o) ∙ omega (arith, length-drop (length bs) o))

@@ -8,8 +8,8 @@ use native.Mathlib.Nat.{zero-add, zero-mul, suc-mul, mul-le-mul-right}
 use native.Mathlib.Numerals.{add-one}
 use lib.Dec.{ltb}
 use lib.ListN.{length, getD, take, drop, length-append, length-drop}
-use lib.Seq.{length-take-le, drop-drop, take-suc}
-use borrow.Author.Tests.{lt-ltb, le-ltb, ltb-true, ltb-false}
+use lib.Seq.{length-take-le, drop-drop}
+use borrow.Author.Tests.{lt-ltb, le-ltb}
 use Rattle.writer.specs.Written.{Wrote}
 use Rattle.writer.proofs.Laws.{wrote-then, wrote-more}
 use Rattle.text.specs.Text.{digits, decimal, hex-digit, hex, named, refused-line, board-line, position-line, position-lines, table-text, text-refused, text-players, text-squares, text-width, line-feed}

@@ -1,18 +1,12 @@
 -- `programs::put_refusal` meets its contract. Assumes nothing.
-use mathlib.Core.Path.{_≡_, refl, sym, ap, _∙_, subst}
-use Prim.Native.Nat.{ℕ, _+_, _*_, _-_, _≤_, _<_}
+use Prim.Native.Nat.{_-_}
 use native.Mathlib.Omega.{arith}
-use lib.ListN.{length, take, drop}
 use denote.Ref.{now}
 use Rattle.text.specs.Text.{refused-line}
 use Rattle.programs.proofs.Writing.{writes-none, writes-wrote}
 use borrow.Author.Needs.{needs}
 use Rattle.programs.proofs.put_refusal.Statement.{statement}
 use Rattle.programs.proofs.put_refusal.Tie as tie
-use Rattle.programs.proofs.put_refusal.Reads as reads
-use Rattle.programs.proofs.put_refusal.Lts as lts
-use Rattle.text.proofs.put_refused_line.Reads as put-refused-line-reads
-use Rattle.text.proofs.refused_line_length.Reads as refused-line-length-reads
 
 refused-line-length-requires : tie.Need-refused-line-length-requires
 refused-line-length-requires c κs = search needs

@@ -1,18 +1,12 @@
 -- `programs::put_text` meets its contract. Assumes nothing.
-use mathlib.Core.Path.{_≡_, refl, sym, ap, _∙_, subst}
-use Prim.Native.Nat.{ℕ, _+_, _*_, _-_, _≤_, _<_}
+use Prim.Native.Nat.{_-_}
 use native.Mathlib.Omega.{arith}
-use lib.ListN.{length, take, drop}
 use denote.Ref.{now}
 use Rattle.text.specs.Text.{table-text}
 use Rattle.programs.proofs.Writing.{writes-none, writes-wrote}
 use borrow.Author.Needs.{needs}
 use Rattle.programs.proofs.put_text.Statement.{statement}
 use Rattle.programs.proofs.put_text.Tie as tie
-use Rattle.programs.proofs.put_text.Reads as reads
-use Rattle.programs.proofs.put_text.Lts as lts
-use Rattle.text.proofs.put_table.Reads as put-table-reads
-use Rattle.text.proofs.table_length.Reads as table-length-reads
 
 table-length-requires : tie.Need-table-length-requires
 table-length-requires c κs = search needs

@@ -1,9 +1,9 @@
 -- The proof of the cycle of calls {put_decimal}. The measure is the number. Assumes nothing.
-use mathlib.Core.Path.{_≡_, refl, sym, ap, _∙_, subst}
-use mathlib.Core.List.{List, [], _∷_, _++_}
+use mathlib.Core.Path.{sym, ap, subst}
+use mathlib.Core.List.{List, [], _∷_}
 use native.Mathlib.Omega.{arith}
-use Prim.Native.Nat.{_+_, _*_, _/_, _%_, _≤_}
-use lib.ListN.{length, length-append, take, drop, getD}
+use Prim.Native.Nat.{_+_, _/_, _%_}
+use lib.ListN.{length}
 use denote.Ref.{now}
 use Rattle.writer.specs.Written.{Wrote}
 use Rattle.text.specs.Text.{decimal}

@@ -1,15 +1,10 @@
 -- `text::board_line_length` meets its contract. Assumes nothing.
-use mathlib.Core.Path.{_≡_, refl, sym, ap, _∙_, subst}
 use native.Mathlib.Omega.{arith}
-use lib.ListN.{length, length-append, take, drop, getD}
 use Rattle.text.proofs.Laws.{board-length, named-length}
-use Rattle.text.specs.Text.{text-players, text-squares, text-width, named, decimal}
+use Rattle.text.specs.Text.{text-players, text-squares, text-width}
 use borrow.Author.Needs.{needs}
 use Rattle.text.proofs.board_line_length.Statement.{statement}
 use Rattle.text.proofs.board_line_length.Tie as tie
-use Rattle.text.proofs.board_line_length.Reads as reads
-use Rattle.text.proofs.board_line_length.Lts as lts
-use Rattle.text.proofs.decimal_length.Reads as decimal-length-reads
 
 decimal-length-requires : tie.Need-decimal-length-requires
 decimal-length-requires c κs = search needs

@@ -1,16 +1,13 @@
 -- `text::position_lines_length` meets its contract. The loop's invariant: the length is that of the lines before this one. Assumes nothing.
-use mathlib.Core.Path.{_≡_, refl, sym, ap, _∙_, subst}
-use Prim.Native.Nat.{ℕ, _+_, _*_, _-_, _/_, _%_, _≤_, _<_}
+use mathlib.Core.Path.{_≡_, refl, subst}
+use Prim.Native.Nat.{ℕ, _*_, _-_, _≤_}
 use native.Mathlib.Omega.{arith}
 use lib.ListN.{length as long, take, drop}
 use denote.Ref.{now}
-use Rattle.text.specs.Text.{decimal, position-line, position-lines}
+use Rattle.text.specs.Text.{position-lines}
 use Rattle.text.proofs.Laws.{line-length, lines-next-length, value-long}
 use Rattle.text.proofs.position_lines_length.Statement.{statement}
 use Rattle.text.proofs.position_lines_length.Tie as tie
-use Rattle.text.proofs.position_lines_length.Reads as reads
-use Rattle.text.proofs.position_lines_length.Lts as lts
-use Rattle.text.proofs.decimal_length.Reads as decimal-length-reads
 
 abbrev Inv-loop : tie.InvT-loop
 Inv-loop positions value-bytes table length₀ position₀ length position =

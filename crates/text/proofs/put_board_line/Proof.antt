@@ -1,19 +1,11 @@
 -- `text::put_board_line` meets its contract: three words with their numbers, and the line feed. Assumes nothing.
-use mathlib.Core.Path.{_≡_, refl, sym, ap, _∙_, subst}
-use mathlib.Core.List.{List, [], _∷_, _++_}
-use Prim.Native.Nat.{ℕ, _+_, _*_, _-_, _/_, _%_, _≤_, _<_}
+use Prim.Native.Nat.{_-_}
 use native.Mathlib.Omega.{arith}
-use lib.ListN.{length, length-append, take, drop, getD}
-use denote.Ref.{now}
-use Rattle.text.specs.Text.{decimal, named, board-line, text-players, text-squares, text-width, line-feed}
+use Rattle.text.specs.Text.{named, board-line, text-players, text-squares, text-width, line-feed}
 use Rattle.text.proofs.Laws.{board-length, wrote-four}
 use borrow.Author.Needs.{needs}
 use Rattle.text.proofs.put_board_line.Statement.{statement}
 use Rattle.text.proofs.put_board_line.Tie as tie
-use Rattle.text.proofs.put_board_line.Reads as reads
-use Rattle.text.proofs.put_board_line.Lts as lts
-use Rattle.text.proofs.put_named.Reads as put-named-reads
-use Rattle.writer.proofs.put_byte.Reads as put-byte-reads
 
 slice-aggregate-put-named : tie.Need-slice-aggregate-put-named
 slice-aggregate-put-named c = search needs

@@ -1,9 +1,9 @@
 -- `text::put_hex` meets its contract. The loop's invariant: the digits of the first i bytes are written. Assumes nothing.
-use mathlib.Core.Path.{_≡_, refl, sym, ap, _∙_, subst}
+use mathlib.Core.Path.{_≡_, refl, _∙_, subst}
 use mathlib.Core.List.{List}
-use Prim.Native.Nat.{ℕ, _+_, _*_, _-_, _/_, _%_, _≤_, _<_}
+use Prim.Native.Nat.{ℕ, _-_, _≤_}
 use native.Mathlib.Omega.{arith}
-use lib.ListN.{length, length-append, take, drop, getD}
+use lib.ListN.{length, take}
 use lib.Seq.{take-all}
 use denote.Ref.{now}
 use Rattle.writer.specs.Written.{Wrote}
@@ -12,10 +12,6 @@ use Rattle.writer.proofs.Laws.{wrote-nothing}
 use Rattle.text.proofs.Laws.{hex-long, hex-front, hex-turn}
 use Rattle.text.proofs.put_hex.Statement.{statement}
 use Rattle.text.proofs.put_hex.Tie as tie
-use Rattle.text.proofs.put_hex.Reads as reads
-use Rattle.text.proofs.put_hex.Lts as lts
-use Rattle.text.proofs.hex_digit.Reads as hex-digit-reads
-use Rattle.writer.proofs.put_byte.Reads as put-byte-reads
 
 abbrev Inv-loop : tie.InvT-loop
 Inv-loop out₀ at bytes next₀ i₀ out next i = (i ≤ length bytes) × (length out ≡ length out₀) × Wrote at (hex (take i bytes)) next out₀ out

@@ -1,9 +1,6 @@
 -- `text::put_named` meets its contract: the word, then its number. Assumes nothing.
-use mathlib.Core.Path.{_≡_, refl, sym, ap, _∙_, subst}
-use mathlib.Core.List.{List, [], _∷_, _++_}
-use Prim.Native.Nat.{ℕ, _+_, _*_, _-_, _/_, _%_, _≤_, _<_}
+use Prim.Native.Nat.{_-_}
 use native.Mathlib.Omega.{arith}
-use lib.ListN.{length, length-append, take, drop, getD}
 use denote.Ref.{now}
 use Rattle.text.specs.Text.{decimal, named}
 use Rattle.writer.proofs.Laws.{wrote-then}
@@ -11,10 +8,6 @@ use Rattle.text.proofs.Laws.{named-length}
 use borrow.Author.Needs.{needs}
 use Rattle.text.proofs.put_named.Statement.{statement}
 use Rattle.text.proofs.put_named.Tie as tie
-use Rattle.text.proofs.put_named.Reads as reads
-use Rattle.text.proofs.put_named.Lts as lts
-use Rattle.text.proofs.put_decimal.Reads as put-decimal-reads
-use Rattle.writer.proofs.put.Reads as put-reads
 
 put-requires : tie.Need-put-requires
 put-requires c κs =

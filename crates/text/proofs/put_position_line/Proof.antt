@@ -1,20 +1,13 @@
 -- `text::put_position_line` meets its contract: the number, a space, the value, and the line feed. Assumes nothing.
-use mathlib.Core.Path.{_≡_, refl, sym, ap, _∙_, subst}
-use mathlib.Core.List.{List, [], _∷_, _++_}
-use Prim.Native.Nat.{ℕ, _+_, _*_, _-_, _/_, _%_, _≤_, _<_}
+use mathlib.Core.List.{[], _∷_}
+use Prim.Native.Nat.{_-_}
 use native.Mathlib.Omega.{arith}
-use lib.ListN.{length, length-append, take, drop, getD}
 use denote.Ref.{now}
 use Rattle.text.specs.Text.{decimal, hex, position-line, line-feed}
 use Rattle.text.proofs.Laws.{line-length, hex-long, wrote-four}
 use borrow.Author.Needs.{needs}
 use Rattle.text.proofs.put_position_line.Statement.{statement}
 use Rattle.text.proofs.put_position_line.Tie as tie
-use Rattle.text.proofs.put_position_line.Reads as reads
-use Rattle.text.proofs.put_position_line.Lts as lts
-use Rattle.text.proofs.put_decimal.Reads as put-decimal-reads
-use Rattle.text.proofs.put_hex.Reads as put-hex-reads
-use Rattle.writer.proofs.put_byte.Reads as put-byte-reads
 
 put-decimal-requires : tie.Need-put-decimal-requires
 put-decimal-requires c κs =

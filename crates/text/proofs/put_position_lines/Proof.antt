@@ -1,11 +1,11 @@
 -- `text::put_position_lines` meets its contract. The loop's invariant: the lines of the positions before this one are written. Assumes nothing.
-use mathlib.Core.Path.{_≡_, refl, sym, ap, _∙_, subst}
+use mathlib.Core.Path.{_≡_, refl, sym, _∙_, subst}
 use mathlib.Core.List.{List}
-use Prim.Native.Nat.{ℕ, _+_, _*_, _-_, _/_, _%_, _≤_, _<_}
+use Prim.Native.Nat.{ℕ, _+_, _*_, _-_, _≤_}
 use native.Mathlib.Omega.{arith}
 use native.Mathlib.Nat.{zero-mul, suc-mul}
 use native.Mathlib.Numerals.{add-one}
-use lib.ListN.{length, length-append, take, drop, getD}
+use lib.ListN.{length}
 use denote.Ref.{now}
 use Rattle.writer.specs.Written.{Wrote}
 use Rattle.text.specs.Text.{position-line, position-lines}
@@ -13,9 +13,6 @@ use Rattle.writer.proofs.Laws.{wrote-nothing}
 use Rattle.text.proofs.Laws.{lines-within, lines-turn, value-within, value-cut}
 use Rattle.text.proofs.put_position_lines.Statement.{statement}
 use Rattle.text.proofs.put_position_lines.Tie as tie
-use Rattle.text.proofs.put_position_lines.Reads as reads
-use Rattle.text.proofs.put_position_lines.Lts as lts
-use Rattle.text.proofs.put_position_line.Reads as put-position-line-reads
 
 abbrev Inv-loop : tie.InvT-loop
 Inv-loop out₀ at positions value-bytes table next₀ from₀ position₀ out next from position =

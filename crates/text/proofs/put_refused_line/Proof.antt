@@ -1,20 +1,12 @@
 -- `text::put_refused_line` meets its contract: the word with its number, and the line feed. Assumes nothing.
-use mathlib.Core.Path.{_≡_, refl, sym, ap, _∙_, subst}
-use mathlib.Core.List.{List, [], _∷_, _++_}
-use Prim.Native.Nat.{ℕ, _+_, _*_, _-_, _/_, _%_, _≤_, _<_}
+use Prim.Native.Nat.{_-_}
 use native.Mathlib.Omega.{arith}
-use lib.ListN.{length, length-append, take, drop, getD}
-use denote.Ref.{now}
-use Rattle.text.specs.Text.{decimal, named, refused-line, text-refused, line-feed}
+use Rattle.text.specs.Text.{named, refused-line, text-refused, line-feed}
 use Rattle.writer.proofs.Laws.{wrote-then}
 use Rattle.text.proofs.Laws.{refused-length}
 use borrow.Author.Needs.{needs}
 use Rattle.text.proofs.put_refused_line.Statement.{statement}
 use Rattle.text.proofs.put_refused_line.Tie as tie
-use Rattle.text.proofs.put_refused_line.Reads as reads
-use Rattle.text.proofs.put_refused_line.Lts as lts
-use Rattle.text.proofs.put_named.Reads as put-named-reads
-use Rattle.writer.proofs.put_byte.Reads as put-byte-reads
 
 slice-aggregate-put-named : tie.Need-slice-aggregate-put-named
 slice-aggregate-put-named c = search needs

@@ -1,8 +1,6 @@
 -- `text::put_table` meets its contract: the line of the board, then those of the positions. Assumes nothing.
-use mathlib.Core.Path.{_≡_, refl, sym, ap, _∙_, subst}
-use Prim.Native.Nat.{ℕ, _+_, _*_, _-_, _/_, _%_, _≤_, _<_}
+use Prim.Native.Nat.{_-_}
 use native.Mathlib.Omega.{arith}
-use lib.ListN.{length, length-append, take, drop, getD}
 use denote.Ref.{now}
 use Rattle.text.specs.Text.{board-line, position-lines, table-text}
 use Rattle.writer.proofs.Laws.{wrote-then}
@@ -10,10 +8,6 @@ use Rattle.text.proofs.Laws.{table-text-length}
 use borrow.Author.Needs.{needs}
 use Rattle.text.proofs.put_table.Statement.{statement}
 use Rattle.text.proofs.put_table.Tie as tie
-use Rattle.text.proofs.put_table.Reads as reads
-use Rattle.text.proofs.put_table.Lts as lts
-use Rattle.text.proofs.put_board_line.Reads as put-board-line-reads
-use Rattle.text.proofs.put_position_lines.Reads as put-position-lines-reads
 
 put-board-line-requires : tie.Need-put-board-line-requires
 put-board-line-requires c κs =

@@ -1,18 +1,14 @@
 -- `programs::dealer::all_columns` meets its contract. Assumes nothing.
-use mathlib.Core.Path.{_≡_, refl, sym, ap, _∙_, subst}
-use Prim.Native.Nat.{ℕ, _+_, _*_, _-_, _≤_, _<_}
+use mathlib.Core.Path.{_≡_}
+use Prim.Native.Nat.{_*_, _-_}
 use native.Mathlib.Omega.{arith}
-use Rattle.grid.specs.Grid.{Board, board, board-refusal, columns, grid-rows, row-long}
+use Rattle.grid.specs.Grid.{board, columns, grid-rows}
 use Rattle.grid.specs.Code.{board-of}
 use Rattle.grid.proofs.Facts.{board-in}
 use Rattle.grid.proofs.Sizes.{arrays-most}
 use borrow.Author.Needs.{needs}
 use Rattle.programs.proofs.dealer.all_columns.Statement.{statement}
 use Rattle.programs.proofs.dealer.all_columns.Tie as tie
-use Rattle.programs.proofs.dealer.all_columns.Reads as reads
-use Rattle.programs.proofs.dealer.all_columns.Lts as lts
-use Rattle.grid.proofs.board.Board.columns.Reads as columns-reads
-use Rattle.grid.proofs.board.Board.grid_rows.Reads as grid-rows-reads
 
 grid-rows-requires : tie.Need-grid-rows-requires
 grid-rows-requires c κs = search needs

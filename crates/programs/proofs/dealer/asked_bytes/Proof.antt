@@ -1,8 +1,8 @@
 -- `programs::dealer::asked_bytes` meets its contract. Assumes nothing.
-use mathlib.Core.Path.{_≡_, refl, sym, ap, _∙_, subst}
-use Prim.Native.Nat.{ℕ, _+_, _*_, _-_, _≤_, _<_}
+use mathlib.Core.Path.{_≡_}
+use Prim.Native.Nat.{_*_, _-_}
 use native.Mathlib.Omega.{arith}
-use Rattle.grid.specs.Grid.{Board, board, board-refusal, columns, grid-rows, row-long}
+use Rattle.grid.specs.Grid.{board, columns, row-long}
 use Rattle.grid.specs.Code.{board-of}
 use Rattle.keys.proofs.Lengths.{columns-in}
 use Rattle.programs.specs.Programs.{asked-bytes}
@@ -10,11 +10,6 @@ use Rattle.programs.proofs.Dealings.{words-most}
 use borrow.Author.Needs.{needs}
 use Rattle.programs.proofs.dealer.asked_bytes.Statement.{statement}
 use Rattle.programs.proofs.dealer.asked_bytes.Tie as tie
-use Rattle.programs.proofs.dealer.asked_bytes.Reads as reads
-use Rattle.programs.proofs.dealer.asked_bytes.Lts as lts
-use Rattle.grid.proofs.board.Board.columns.Reads as columns-reads
-use Rattle.grid.proofs.board.Board.row_length.Reads as row-length-reads
-use Rattle.programs.proofs.dealer.all_columns.Reads as all-columns-reads
 
 all-columns-requires : tie.Need-all-columns-requires
 all-columns-requires c κs = search needs

@@ -1,16 +1,10 @@
 -- `programs::dealer::asked_refusal` meets its contract. Assumes nothing.
-use mathlib.Core.Path.{_≡_, refl, sym, ap, _∙_, subst}
-use native.Mathlib.Omega.{arith}
-use Rattle.grid.specs.Grid.{Board, board, board-refusal, columns, grid-rows, row-long}
-use Rattle.grid.specs.Code.{board-of}
+use mathlib.Core.Path.{sym, _∙_}
+use Rattle.grid.specs.Grid.{board}
 use Rattle.programs.proofs.Dealings.{asked-board, asked-point, asked-most, asked-length, asked-none}
 use borrow.Author.Needs.{needs}
 use Rattle.programs.proofs.dealer.asked_refusal.Statement.{statement}
 use Rattle.programs.proofs.dealer.asked_refusal.Tie as tie
-use Rattle.programs.proofs.dealer.asked_refusal.Reads as reads
-use Rattle.programs.proofs.dealer.asked_refusal.Lts as lts
-use Rattle.grid.proofs.board.Board.refusal.Reads as refusal-reads
-use Rattle.programs.proofs.dealer.asked_bytes.Reads as asked-bytes-reads
 
 refusal-requires : tie.Need-refusal-requires
 refusal-requires c κs = search needs

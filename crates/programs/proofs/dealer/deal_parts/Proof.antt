@@ -1,20 +1,15 @@
 -- `programs::dealer::deal_parts` meets its contract: the parts are cut one behind another. Assumes nothing.
-use mathlib.Core.Path.{_≡_, refl, sym, ap, _∙_, subst}
-use Prim.Native.Nat.{ℕ, _+_, _*_, _-_, _≤_, _<_}
+use mathlib.Core.Path.{refl, sym}
+use Prim.Native.Nat.{_-_}
 use native.Mathlib.Omega.{arith}
-use lib.ListN.{length, take, drop}
 use lib.Seq.{length-take-le}
 use denote.Ref.{now}
-use Rattle.grid.specs.Grid.{Board, board, board-refusal, columns, grid-rows, row-long}
+use Rattle.grid.specs.Grid.{board}
 use Rattle.grid.specs.Code.{board-of}
 use Rattle.programs.proofs.Dealings.{parts-within, deal-cut}
 use borrow.Author.Needs.{needs}
 use Rattle.programs.proofs.dealer.deal_parts.Statement.{statement}
 use Rattle.programs.proofs.dealer.deal_parts.Tie as tie
-use Rattle.programs.proofs.dealer.deal_parts.Reads as reads
-use Rattle.programs.proofs.dealer.deal_parts.Lts as lts
-use Rattle.programs.proofs.dealer.all_columns.Reads as all-columns-reads
-use Rattle.programs.proofs.dealer.deal.Reads as deal-reads
 
 all-columns-requires : tie.Need-all-columns-requires
 all-columns-requires c κs = search needs

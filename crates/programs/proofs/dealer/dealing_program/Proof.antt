@@ -1,22 +1,12 @@
 -- `programs::dealer::dealing_program` meets its contract. Assumes nothing.
-use mathlib.Core.Path.{_≡_, refl, sym, ap, _∙_, subst}
-use Prim.Native.Nat.{ℕ, _+_, _*_, _-_, _≤_, _<_}
-use native.Mathlib.Omega.{arith}
-use lib.ListN.{length, take, drop}
-use denote.Ref.{now}
-use Rattle.grid.specs.Grid.{Board, board, board-refusal, columns, grid-rows, row-long}
-use Rattle.grid.specs.Code.{board-of}
+use mathlib.Core.Path.{sym, _∙_}
+use Prim.Native.Nat.{_-_}
+use Rattle.grid.specs.Grid.{board}
 use Rattle.programs.proofs.Writing.{writes-as}
 use Rattle.programs.proofs.Dealings.{broken-input, inside, refused-input, rest-length, asked-fine, asked-input}
 use borrow.Author.Needs.{needs}
 use Rattle.programs.proofs.dealer.dealing_program.Statement.{statement}
 use Rattle.programs.proofs.dealer.dealing_program.Tie as tie
-use Rattle.programs.proofs.dealer.dealing_program.Reads as reads
-use Rattle.programs.proofs.dealer.dealing_program.Lts as lts
-use Rattle.keys.proofs.reader.header_in.Reads as header-in-reads
-use Rattle.programs.proofs.dealer.asked_refusal.Reads as asked-refusal-reads
-use Rattle.programs.proofs.dealer.put_dealt.Reads as put-dealt-reads
-use Rattle.programs.proofs.put_refusal.Reads as put-refusal-reads
 
 header-in-requires : tie.Need-header-in-requires
 header-in-requires c κs = search needs

@@ -2,8 +2,6 @@
 use borrow.Author.Tests.{eq-eqb, ne-eqb}
 use Rattle.programs.proofs.dealer.no_room.Statement.{statement}
 use Rattle.programs.proofs.dealer.no_room.Tie as tie
-use Rattle.programs.proofs.dealer.no_room.Reads as reads
-use Rattle.programs.proofs.dealer.no_room.Lts as lts
 
 returns : tie.Need-returns
 returns c = rw (eq-eqb _ 9 (c .if1 .taken))

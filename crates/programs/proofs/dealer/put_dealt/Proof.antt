@@ -1,11 +1,11 @@
 -- `programs::dealer::put_dealt` meets its contract: Deal on the room that the keys are given. Assumes nothing.
-use mathlib.Core.Path.{_≡_, refl, sym, ap, _∙_, subst}
-use Prim.Native.Nat.{ℕ, _+_, _*_, _-_, _≤_, _<_}
+use mathlib.Core.Path.{_≡_, sym, ap, _∙_}
+use Prim.Native.Nat.{ℕ, _*_, _-_}
 use native.Mathlib.Omega.{arith}
-use lib.ListN.{length, take, drop}
+use lib.ListN.{length}
 use lib.Seq.{length-take-le}
 use denote.Ref.{now}
-use Rattle.grid.specs.Grid.{Board, board, board-refusal, columns, grid-rows, row-long}
+use Rattle.grid.specs.Grid.{board}
 use Rattle.grid.specs.Code.{board-of}
 use Rattle.xor.proofs.Laws.{good-by-entries}
 use Rattle.keys.specs.Keys.{key-long}
@@ -14,13 +14,6 @@ use Rattle.programs.proofs.Dealings.{room-within, dealt-written, dealt-
 use borrow.Author.Needs.{needs}
 use Rattle.programs.proofs.dealer.put_dealt.Statement.{statement}
 use Rattle.programs.proofs.dealer.put_dealt.Tie as tie
-use Rattle.programs.proofs.dealer.put_dealt.Reads as reads
-use Rattle.programs.proofs.dealer.put_dealt.Lts as lts
-use Rattle.keys.proofs.length.key_length.Reads as key-length-reads
-use Rattle.programs.proofs.dealer.deal_parts.Reads as deal-parts-reads
-use Rattle.programs.proofs.dealer.no_room.Reads as no-room-reads
-use Rattle.programs.proofs.dealer.room_for.Reads as room-for-reads
-use Rattle.programs.proofs.put_refusal.Reads as put-refusal-reads
 
 cast-long : tie.Need-cast-long
 cast-long c = search needs

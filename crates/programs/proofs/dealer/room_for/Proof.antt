@@ -2,8 +2,6 @@
 use borrow.Author.Tests.{lt-ltb, le-ltb}
 use Rattle.programs.proofs.dealer.room_for.Statement.{statement}
 use Rattle.programs.proofs.dealer.room_for.Tie as tie
-use Rattle.programs.proofs.dealer.room_for.Reads as reads
-use Rattle.programs.proofs.dealer.room_for.Lts as lts
 
 returns : tie.Need-returns
 returns c = rw (lt-ltb 65536 _ (c .if1 .taken))

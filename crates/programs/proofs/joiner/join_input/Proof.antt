@@ -1,8 +1,6 @@
 -- `programs::joiner::join_input` meets its contract: an input longer than any by its first header, any other as Join keys. Assumes nothing.
-use mathlib.Core.Path.{_≡_, refl, sym, ap, _∙_, subst}
-use Prim.Native.Nat.{ℕ, _+_, _*_, _-_, _≤_, _<_}
-use native.Mathlib.Omega.{arith}
-use lib.ListN.{length, take, drop}
+use mathlib.Core.Path.{sym}
+use Prim.Native.Nat.{_-_}
 use lib.Seq.{length-take-le}
 use denote.Ref.{now}
 use Rattle.xor.proofs.Laws.{good-by-entries}
@@ -10,10 +8,6 @@ use Rattle.programs.proofs.Joinings.{refused-long, joined-front}
 use borrow.Author.Needs.{needs}
 use Rattle.programs.proofs.joiner.join_input.Statement.{statement}
 use Rattle.programs.proofs.joiner.join_input.Tie as tie
-use Rattle.programs.proofs.joiner.join_input.Reads as reads
-use Rattle.programs.proofs.joiner.join_input.Lts as lts
-use Rattle.programs.proofs.joiner.join_keys.Reads as join-keys-reads
-use Rattle.programs.proofs.joiner.long_refusal.Reads as long-refusal-reads
 
 long-refusal-requires : tie.Need-long-refusal-requires
 long-refusal-requires c κs = search needs

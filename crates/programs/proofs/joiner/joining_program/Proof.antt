@@ -1,8 +1,7 @@
 -- `programs::joiner::joining_program` meets its contract. Assumes nothing.
-use mathlib.Core.Path.{_≡_, refl, sym, ap, _∙_, subst}
-use Prim.Native.Nat.{ℕ, _+_, _*_, _-_, _≤_, _<_}
+use mathlib.Core.Path.{sym, _∙_}
+use Prim.Native.Nat.{_-_}
 use native.Mathlib.Omega.{arith}
-use lib.ListN.{length, take, drop}
 use denote.Ref.{now}
 use Rattle.xor.proofs.Laws.{good-by-entries}
 use Rattle.nosingginger.proofs.Putting.{answer-is}
@@ -10,11 +9,6 @@ use Rattle.programs.proofs.Joinings.{joins-none, joins-refused, joins-a
 use borrow.Author.Needs.{needs}
 use Rattle.programs.proofs.joiner.joining_program.Statement.{statement}
 use Rattle.programs.proofs.joiner.joining_program.Tie as tie
-use Rattle.programs.proofs.joiner.joining_program.Reads as reads
-use Rattle.programs.proofs.joiner.joining_program.Lts as lts
-use Rattle.programs.proofs.joiner.join_input.Reads as join-input-reads
-use Rattle.programs.proofs.joiner.put_joined.Reads as put-joined-reads
-use Rattle.programs.proofs.put_refusal.Reads as put-refusal-reads
 
 returns : tie.Need-returns
 returns c = joins-none (now (c .before .before .before .before .args .input)) (now (c .before .before .before .before .args .table)) (now (c .before .before .before .before .args .output)) (c .if1 .taken)

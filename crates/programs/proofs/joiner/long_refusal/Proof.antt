@@ -1,17 +1,12 @@
 -- `programs::joiner::long_refusal` meets its contract. Assumes nothing.
-use mathlib.Core.Path.{_≡_, refl, sym, ap, _∙_, subst}
+use mathlib.Core.Path.{sym, _∙_}
 use native.Mathlib.Omega.{arith}
-use Rattle.grid.specs.Grid.{Board, board, board-refusal, columns, grid-rows, row-long}
-use Rattle.grid.specs.Code.{board-of}
+use Rattle.grid.specs.Grid.{board}
 use Rattle.nosingginger.proofs.InTurn.{numbers-board, numbers-player, numbers-none}
 use Rattle.programs.proofs.Joinings.{long-number, long-own, long-length}
 use borrow.Author.Needs.{needs}
 use Rattle.programs.proofs.joiner.long_refusal.Statement.{statement}
 use Rattle.programs.proofs.joiner.long_refusal.Tie as tie
-use Rattle.programs.proofs.joiner.long_refusal.Reads as reads
-use Rattle.programs.proofs.joiner.long_refusal.Lts as lts
-use Rattle.grid.proofs.board.Board.refusal.Reads as refusal-reads
-use Rattle.keys.proofs.reader.header_in.Reads as header-in-reads
 
 header-in-requires : tie.Need-header-in-requires
 header-in-requires c κs = search needs

@@ -1,17 +1,12 @@
 -- `programs::joiner::put_joined` meets its contract. Assumes nothing.
-use mathlib.Core.Path.{_≡_, refl, sym, ap, _∙_, subst}
-use Prim.Native.Nat.{ℕ, _+_, _*_, _-_, _≤_, _<_}
+use mathlib.Core.Path.{sym, _∙_}
+use Prim.Native.Nat.{_-_}
 use native.Mathlib.Omega.{arith}
-use lib.ListN.{length, take, drop}
 use denote.Ref.{now}
 use Rattle.programs.proofs.Joinings.{broken-refused, table-size, value-size, table-cut, named-board}
 use borrow.Author.Needs.{needs}
 use Rattle.programs.proofs.joiner.put_joined.Statement.{statement}
 use Rattle.programs.proofs.joiner.put_joined.Tie as tie
-use Rattle.programs.proofs.joiner.put_joined.Reads as reads
-use Rattle.programs.proofs.joiner.put_joined.Lts as lts
-use Rattle.keys.proofs.reader.header_in.Reads as header-in-reads
-use Rattle.programs.proofs.put_text.Reads as put-text-reads
 
 header-in-requires : tie.Need-header-in-requires
 header-in-requires c κs = search needs
