@@ -62,8 +62,10 @@ module _ (bs out out-now : List ℕ) (b : Board) (good : bytes-good bs ≡ true)
   unfolding key-part
   part-fine i h =
       let fits : suc i * key-long b ≤ b .p * key-long b = mul-le-mul-right (key-long b) h in
+      let fine =
       place-accepted b (0 + i) (part i) (places-each (b .p) 0 b bs (t .places) i h)
-      (length-take-le (key-long b) (drop (i * key-long b) bs) (rw length-drop (omega (arith, t .whole))))
+      (length-take-le (key-long b) (drop (i * key-long b) bs) (rw length-drop (omega (arith, t .whole)))) in
+      (fine .0, fine .1)
 
   part-good : (i : ℕ) → bytes-good (part i) ≡ true
   unfolding key-part
