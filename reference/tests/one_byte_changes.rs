@@ -3,7 +3,7 @@
 use reference::board::Board;
 use reference::draw::{Drawn, Generator};
 use reference::join::join_keys;
-use reference::key::check_key;
+use reference::key::{check_key, held_seed_place};
 
 /// The runs of Check key's answers at one place: last value, answer.
 fn runs(key: &[u8], place: usize) -> Vec<(u8, u32)> {
@@ -149,4 +149,37 @@ fn among_joined_keys() {
             }
         }
     }
+}
+
+/// The stored output of the library's own trial program (crates/keys_trial) is what this implementation answers for the same key.
+#[test]
+fn the_library_answers_the_same() {
+    let mut key = [7u8; 79];
+    key[..6].copy_from_slice(&[2, 0, 6, 4, 1, 2]);
+    key[38] = 1;
+    let mut expected = String::new();
+    for place in 0..key.len() {
+        let mut low = 0u32;
+        let mut words = Vec::new();
+        for (high, answer) in runs(&key, place) {
+            let values = match u32::from(high) {
+                high if high == low => format!("{low}"),
+                high => format!("{low}-{high}"),
+            };
+            words.push(match answer {
+                0 => format!("{values} accepted"),
+                number => format!("{values} refused {number}"),
+            });
+            low = u32::from(high) + 1;
+        }
+        expected.push_str(&format!("{place}: {}\n", words.join(", ")));
+    }
+    for grid_row in 0..3 {
+        for column in 0..3 {
+            let place = held_seed_place(&key, grid_row, column).unwrap_or(0);
+            expected.push_str(&format!("grid row {grid_row} column {column}: {place}\n"));
+        }
+    }
+    let stored = concat!(env!("CARGO_MANIFEST_DIR"), "/../crates/keys_trial/stdout");
+    assert_eq!(std::fs::read_to_string(stored).unwrap(), expected);
 }

@@ -1,0 +1,127 @@
+-- `dealing::deal_keys` meets its contract. The loop's invariant: behind player 0's key stand those of the players before this one. Assumes nothing.
+use mathlib.Core.Path.{_≡_, refl, _∙_}
+use Prim.Native.Nat.{_-_, _≤_}
+use native.Mathlib.Omega.{arith}
+use lib.ListN.{length}
+use denote.Ref.{now}
+use Rattle.grid.specs.Grid.{board}
+use Rattle.grid.specs.Code.{board-of}
+use Rattle.grid.proofs.Facts.{board-in}
+use Rattle.keys.specs.Keys.{Lent, keys-from}
+use Rattle.writer.specs.Written.{Wrote}
+use Rattle.writer.proofs.Laws.{wrote-nothing}
+use Rattle.dealing.specs.Dealt.{lent, rule}
+use Rattle.dealing.proofs.Lending.{Lent-fits, lent-fits}
+use Rattle.dealing.proofs.KeyBytes.{Begun, front-room, word-room, next-front-room, again-room, turn, all-written}
+use Rattle.dealing.proofs.deal_keys.Statement.{statement}
+use Rattle.dealing.proofs.deal_keys.Tie as tie
+use Rattle.dealing.proofs.deal_keys.Reads as reads
+use Rattle.dealing.proofs.deal_keys.Lts as lts
+use Rattle.dealing.proofs.last_word.put_last_word.Reads as put-last-word-reads
+use Rattle.dealing.proofs.put_front.Reads as put-front-reads
+use Rattle.grid.proofs.board.Board.row_length.Reads as row-length-reads
+use Rattle.writer.proofs.put_again.Reads as put-again-reads
+
+abbrev Inv-loop : tie.InvT-loop
+Inv-loop board point value arrays seeds words keys₀ row-length last next₀ player₀ keys next player =
+    (1 ≤ player) × (player ≤ board .players) × (length keys ≡ length keys₀)
+    × Wrote next₀ (keys-from (player - 1) 1 (board-of board) (rule (board-of board)) (lent point value arrays seeds words)) next keys₀ keys
+
+abbrev μ-loop : tie.MeasureT-loop
+μ-loop board point value arrays seeds words keys₀ row-length last next₀ player₀ keys next player = board .players - player
+
+abbrev lent-to : tie.Start Inv-loop μ-loop → Lent
+lent-to s = let a = s .args in lent (a .point) (now (a .value)) (now (a .arrays)) (now (a .seeds)) (now (a .words))
+
+-- nothing is refused
+facts : (s : tie.Start Inv-loop μ-loop) → Lent-fits (board-of (s .args .board)) (lent-to s)
+facts s = lent-fits (board-of (s .args .board)) (lent-to s) (s .pre .0)
+
+-- player 0's key is written before the loop
+begun : (c : tie.After-slice-known3 Inv-loop μ-loop) → let s = c .before .before .before .before .before .before .before .before .before .before .before .before .before .before in
+    Begun (board-of (s .args .board)) (lent-to s) (c .before .before .before .before .before .before .put-front .result) (c .before .before .put-last-word .result) (now (s .args .keys)) (c .before .before .before .before .before .before .put-front .last .0) (c .before .before .put-last-word .last .0)
+unfolding board
+begun c =
+    record { room = c .before .before .before .before .before .before .before .before .before .before .before .before .before .before .pre .1; front = c .before .before .before .before .before .before .put-front .ensures; word = c .before .before .put-last-word .ensures }
+
+row-length-requires : tie.Need-row-length-requires Inv-loop μ-loop
+row-length-requires c κs = facts (c .before .before .before .before .before) .accepted
+
+put-front-requires : tie.Need-put-front-requires Inv-loop μ-loop
+unfolding board
+put-front-requires c κs =
+    let s = c .before .before .before .before .before .before .before in
+    let f = facts s in
+    (f .accepted, omega arith, f .arrays, f .seeds, front-room (board-of (s .args .board)) (lent-to s) f (length (now (s .args .keys))) (s .pre .1))
+
+put-last-word-requires : tie.Need-put-last-word-requires Inv-loop μ-loop
+unfolding board
+put-last-word-requires c κs =
+    let s = c .before .before .before .before .before .before .before .before .before .before .before in
+    let f = facts s in
+    let p = c .before .before .before .put-front in
+    (f .accepted, f .point, f .value, f .seeds, f .words, omega (arith, p .kept .0, word-room (board-of (s .args .board)) (lent-to s) f (length (now (s .args .keys))) (p .result) (s .pre .1) (p .ensures .next-is)))
+
+loop-holds : tie.Need-loop-holds Inv-loop μ-loop
+unfolding keys-from board
+loop-holds c = (omega arith, omega (arith, board-in (board-of (c .before .before .before .before .before .before .before .before .before .before .before .before .before .before .args .board)) (facts (c .before .before .before .before .before .before .before .before .before .before .before .before .before .before) .accepted) .players-least), refl, wrote-nothing _ _)
+
+put-front-requires-2 : tie.Need-put-front-requires-2 Inv-loop μ-loop
+unfolding board
+put-front-requires-2 c κs =
+    let s = c .before .before .before .before .before .before .before .before .before .before .before .before .before .before .before .before .before .before in
+    let f = facts s in
+    let l = c .before .before .before .loop in
+    let most = board-in (board-of (s .args .board)) (f .accepted) .players-most in
+    (f .accepted, omega arith, f .arrays, f .seeds, next-front-room (board-of (c .before .before .before .before .before .before .before .before .before .before .before .before .before .before .before .before .before .before .args .board)) (lent-to (c .before .before .before .before .before .before .before .before .before .before .before .before .before .before .before .before .before .before)) (facts (c .before .before .before .before .before .before .before .before .before .before .before .before .before .before .before .before .before .before)) _ _ _ _ _ (begun (c .before .before .before .before)) (l .player) (l .next) (l .keys) (l .inv .0) (l .inv .3) (omega arith))
+
+put-again-requires : tie.Need-put-again-requires Inv-loop μ-loop
+unfolding board
+put-again-requires c κs =
+    let l = c .before .before .before .before .before .before .before .loop in
+    again-room (board-of (c .before .before .before .before .before .before .before .before .before .before .before .before .before .before .before .before .before .before .before .before .before .before .args .board)) (lent-to (c .before .before .before .before .before .before .before .before .before .before .before .before .before .before .before .before .before .before .before .before .before .before)) (facts (c .before .before .before .before .before .before .before .before .before .before .before .before .before .before .before .before .before .before .before .before .before .before)) _ _ _ _ _ (begun (c .before .before .before .before .before .before .before .before)) (l .player) (l .next) (l .keys) (l .inv .0) (l .inv .3) (omega arith) _ (c .before .before .before .before .before .before .before .before .before .before .before .before .before .before .before .before .row-length .result) _ (c .before .before .before .before .before .before .before .before .before .before .before .before .before .before .before .before .row-length .ensures) (c .before .before .before .put-front2 .ensures)
+
+add-player : tie.Need-add-player Inv-loop μ-loop
+add-player c = omega arith
+
+loop-less : tie.Need-loop-less Inv-loop μ-loop
+loop-less c = omega arith
+
+loop-again : tie.Need-loop-again Inv-loop μ-loop
+unfolding board
+loop-again c =
+    let l = c .before .before .before .before .before .before .before .before .before .before .loop in
+    let f = c .before .before .before .before .before .before .put-front2 in
+    let w = c .before .before .put-again in (
+      omega arith,
+      omega arith,
+      w .kept .0 ∙ f .kept .0 ∙ l .inv .2,
+      turn (board-of (c .before .before .before .before .before .before .before .before .before .before .before .before .before .before .before .before .before .before .before .before .before .before .before .before .before .args .board)) (lent-to (c .before .before .before .before .before .before .before .before .before .before .before .before .before .before .before .before .before .before .before .before .before .before .before .before .before)) (facts (c .before .before .before .before .before .before .before .before .before .before .before .before .before .before .before .before .before .before .before .before .before .before .before .before .before)) _ _ _ _ _ (begun (c .before .before .before .before .before .before .before .before .before .before .before)) (l .player) (l .next) (l .keys) (l .inv .0) (l .inv .3) (omega arith) _ _ (c .before .before .before .before .before .before .before .before .before .before .before .before .before .before .before .before .before .before .before .row-length .result) _ _ (c .before .before .before .before .before .before .before .before .before .before .before .before .before .before .before .before .before .before .before .row-length .ensures) (f .ensures) (w .ensures),
+    )
+
+same-length : tie.Need-same-length Inv-loop μ-loop
+same-length c = omega arith
+
+returns : tie.Need-returns Inv-loop μ-loop
+unfolding board
+returns c =
+    let l = c .before .before .loop in
+    all-written (board-of (c .before .before .before .before .before .before .before .before .before .before .before .before .before .before .before .before .before .args .board)) (lent-to (c .before .before .before .before .before .before .before .before .before .before .before .before .before .before .before .before .before)) (facts (c .before .before .before .before .before .before .before .before .before .before .before .before .before .before .before .before .before)) _ _ _ _ _ (begun (c .before .before .before)) (l .player) (l .next) (l .keys) (omega arith) (l .inv .3)
+
+pub deal-keys-spec : {M : Type 1} → statement M
+deal-keys-spec =
+    tie.close
+    (tie.spec
+    Inv-loop
+    μ-loop
+    row-length-requires
+    put-front-requires
+    put-last-word-requires
+    loop-holds
+    put-front-requires-2
+    put-again-requires
+    add-player
+    loop-less
+    loop-again
+    same-length
+    returns)
