@@ -11,26 +11,16 @@ use keys::grid_row::seed_after;
 use keys::grid_row::stride;
 use keys::length::grid_row_from;
 use keys::reader::Header;
+use writer::clear;
 ghost use mathlib.Core.Path.{_≡_};
 ghost use Prim.Native.Nat.{_+_, _*_, _-_, _/_, _≤_, _<_, min};
 ghost use lib.ListN.{length};
-ghost use Rattle.xor.specs.Xor.{xors, zeros};
+ghost use Rattle.xor.specs.Xor.{xors};
 ghost use Rattle.chacha20.specs.Expand.{expand};
 ghost use Rattle.grid.specs.Grid.{board-refusal, columns, grid-rows, row-long};
 ghost use Rattle.grid.specs.Code.{board-of};
 ghost use Rattle.keys.specs.Keys.{count-marks, stride, head-in, row-part, opened, table};
 ghost use Rattle.opening.specs.Shares.{stretch, shares, Accepted-with, in-front};
-
-// Makes every byte zero.
-fn clear(out: &mut [u8])
-    ensures { λ r. ⌜ now (out .exit) ≡ zeros (length (now (out .entry))) ⌝ }
-{
-    let mut place: usize = 0;
-    while place < out.len() {
-        out[place] = 0;
-        place += 1;
-    }
-}
 
 // XORs into `out` what a column gives from byte `from` on: its word, and the row of its seed. The row is expanded into `row`, which is
 // scratch: its bytes afterwards count for nothing.

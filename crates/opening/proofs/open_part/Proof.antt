@@ -7,6 +7,7 @@ use native.Mathlib.Omega.{arith}
 use lib.ListN.{length}
 use denote.Ref.{now}
 use borrow.Author.Needs.{needs}
+use Rattle.xor.specs.Xor.{zeros}
 use Rattle.chacha20.specs.Expand.{expand}
 use Rattle.grid.specs.Grid.{columns, grid-rows, row-long}
 use Rattle.grid.specs.Code.{board-of}
@@ -58,6 +59,7 @@ mul-words : tie.Need-mul-words Inv-loop μ-loop
 mul-words c = omega (arith, words-at c, entry c .pre .2)
 
 loop-holds : tie.Need-loop-holds Inv-loop μ-loop
+unfolding zeros
 loop-holds c =
     let s = entry c in
     let z = c .before .before .before .before .before .clear in (
