@@ -1,12 +1,12 @@
 -- Joining tables from the last key down. Assumes nothing.
-use mathlib.Core.Path.{_≡_, refl, sym, ap, _∙_}
+use mathlib.Core.Path.{_≡_, refl, _∙_}
 use mathlib.Core.List.{List}
-use Prim.Native.Nat.{ℕ, suc, _+_, _*_, _-_, _≤_, _<_}
+use Prim.Native.Nat.{ℕ, suc, _*_, _-_, _≤_, _<_}
 use native.Mathlib.Omega.{arith}
 use lib.ListN.{length, take, drop, replicate}
 use Rattle.xor.specs.Xor.{xors, zeros}
 use Rattle.chacha20.specs.Expand.{expand}
-use Rattle.grid.specs.Grid.{Board, board, row-long}
+use Rattle.grid.specs.Grid.{Board, row-long}
 use Rattle.keys.specs.Keys.{key-long, table}
 use Rattle.nosingginger.specs.Entry.{rule}
 use Rattle.nosingginger.specs.JoinKeys.{joined-table}

@@ -1,17 +1,17 @@
 -- Joining shares: the chain of 1, 4, 7 and 9, and the XOR of the shares from the last one down.
 -- Assumes nothing.
-use mathlib.Core.Path.{_≡_, refl, sym, ap, _∙_}
-use mathlib.Core.Bool.{Bool, true, false, _&&_, not, cond}
-use mathlib.Core.List.{List, [], _∷_, _++_}
+use mathlib.Core.Path.{_≡_, refl, sym, _∙_}
+use mathlib.Core.Bool.{_&&_, not}
+use mathlib.Core.List.{List}
 use Prim.Native.Nat.{ℕ, zero, suc, _+_, _*_, _-_, _≤_, _<_}
 use native.Mathlib.Nat.{mul-le-mul-right}
 use native.Mathlib.Omega.{arith}
 use borrow.Author.Tests.{eq-eqb, ne-eqb, le-ltb, lt-ltb, eqb-true, ltb-false, not-false}
 use lib.Dec.{eqb, leb, ltb}
 use lib.ListN.{length, take, drop, replicate, length-drop}
-use lib.Seq.{drop-drop, drop-length, length-take-le}
+use lib.Seq.{drop-drop, length-take-le}
 use Rattle.xor.specs.Xor.{xors, zeros}
-use Rattle.xor.proofs.Laws.{xors-comm, length-xors, word-zeros}
+use Rattle.xor.proofs.Laws.{xors-comm}
 use Rattle.grid.proofs.Refusing.{In, Out}
 use Rattle.keys.proofs.Accepted.{passed}
 use Rattle.nosingginger.specs.Entry.{joined-shares, shares-refusal}

@@ -1,6 +1,6 @@
 -- Open one and Open all: the chain of their numbers behind Check key's, and what is written. Assumes nothing.
-use mathlib.Core.Path.{_≡_, refl, sym, ap, _∙_}
-use mathlib.Core.Bool.{Bool, cond}
+use mathlib.Core.Path.{_≡_, refl, _∙_}
+use mathlib.Core.Bool.{cond}
 use mathlib.Core.List.{List}
 use Prim.Native.Nat.{ℕ, _*_, _≤_, _<_}
 use native.Mathlib.Omega.{arith}
@@ -8,7 +8,7 @@ use borrow.Author.Tests.{le-leb, lt-leb, le-ltb, lt-ltb}
 use lib.Dec.{leb, ltb}
 use lib.ListN.{length}
 use Rattle.chacha20.specs.Expand.{expand}
-use Rattle.grid.specs.Grid.{Board, board, row-long}
+use Rattle.grid.specs.Grid.{board, row-long}
 use Rattle.grid.specs.Code.{board-of}
 use Rattle.keys.specs.Keys.{key-refusal, head-in, opened, table}
 use Rattle.keys.specs.Answers.{checked-as, key-checked}

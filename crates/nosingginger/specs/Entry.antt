@@ -1,8 +1,8 @@
 -- What the operations answer and leave behind: document 03's Entry, word for word. Each is an equation that fixes the number, the value
 -- and every lent byte, refused calls too. Join keys has its own file; Check key and Held seed answer as the crate keys says. Assumes nothing: these are definitions.
 use mathlib.Core.Path.{_≡_}
-use mathlib.Core.Bool.{Bool, true, false, _&&_, not, cond}
-use mathlib.Core.List.{List, [], _∷_, _++_}
+use mathlib.Core.Bool.{_&&_, not, cond}
+use mathlib.Core.List.{List, _++_}
 use Prim.Native.Nat.{ℕ, zero, suc, _+_, _*_}
 use lib.Dec.{ltb, leb, eqb}
 use lib.ListN.{length, take, drop}

@@ -1,4 +1,4 @@
-// Dealing: the refusals 1 to 9 in their order, and the keys of all players.
+// Dealing: the refusals 1 to 9 in their order, and the keys of all players. Nothing is written before all is asked. Assumes nothing.
 use crate::refusals::ACCEPTED;
 use crate::refusals::REFUSED_ARRAYS;
 use crate::refusals::REFUSED_LENT;

@@ -1,5 +1,7 @@
 // The operations that a board and a phone call. None requires anything: each answers document 01's number, the first that fits, and its
-// contract fixes the number, the value and every lent byte, of refused calls too. A refused call changes nothing that is lent.
+// contract, a definition of specs/, fixes the number, the value and every lent byte, of refused calls too. A refused call changes nothing
+// that is lent. Deal stands in lent.rt, Open one in square.rt, Open all and Join keys in tables.rt; Check key and Held seed are those of
+// the crate keys. Assumes nothing.
 ghost use Rattle.nosingginger.specs.Entry.{Long-says, Join-says, Expand-says, Width-says, Sensor-says};
 ghost use mathlib.Core.Path.{_≡_};
 

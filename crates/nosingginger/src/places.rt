@@ -1,4 +1,4 @@
-// The refusals of Join keys: p keys in one slice, the first header fixing p and K, and each key at its place.
+// The refusals of Join keys: p keys in one slice, the first header fixing p and K, and each key at its place. Assumes nothing.
 use crate::refusals::ACCEPTED;
 use crate::refusals::REFUSED_LENGTH;
 use crate::refusals::REFUSED_MARKS;

@@ -1,4 +1,5 @@
 // The refusal numbers of document 01 by name, in one place. The numbers of a board stand with boards, those of a key with keys.
+// Assumes nothing.
 pub use grid::board::ACCEPTED;
 pub use grid::board::REFUSED_GRID_ROWS;
 pub use grid::board::REFUSED_PLAYERS;

@@ -1,4 +1,4 @@
-// Joining shares: the refusals 1, 4, 7 and 9, and the XOR of the shares of all players.
+// Joining shares: the refusals 1, 4, 7 and 9, and the XOR of the shares of all players. Assumes nothing.
 use crate::refusals::ACCEPTED;
 use crate::refusals::REFUSED_LENT;
 use crate::refusals::REFUSED_PLAYERS;

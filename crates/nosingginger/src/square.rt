@@ -1,4 +1,4 @@
-// Opening one square.
+// Opening one square of a key. Assumes nothing.
 use crate::refusals::ACCEPTED;
 use crate::refusals::REFUSED_POSITION;
 use crate::refusals::REFUSED_ROOM;

@@ -1,4 +1,4 @@
-// Full tables: of one key, and the XOR of those of all keys.
+// Full tables: of one key, and the XOR of those of all keys. Assumes nothing.
 use crate::places::keys_refusal;
 use crate::refusals::ACCEPTED;
 use crate::refusals::REFUSED_NUMBER;

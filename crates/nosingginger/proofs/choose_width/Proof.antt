@@ -1,16 +1,10 @@
 -- `nosingginger::choose_width` meets its contract. Assumes nothing.
-use mathlib.Core.Path.{_≡_, sym, _∙_}
+use mathlib.Core.Path.{_∙_}
 use Rattle.grid.proofs.Refusing.{In, in-range, passed, failed}
 use Rattle.nosingginger.proofs.Answering.{width-refused-1, width-refused-2, width-given}
 use borrow.Author.Needs.{needs}
 use Rattle.nosingginger.proofs.choose_width.Statement.{statement}
 use Rattle.nosingginger.proofs.choose_width.Tie as tie
-use Rattle.nosingginger.proofs.choose_width.Reads as reads
-use Rattle.nosingginger.proofs.choose_width.Lts as lts
-use Rattle.grid.proofs.board.within.Reads as within-reads
-use Rattle.grid.proofs.width.choose_width.Reads as choose-width-reads
-use Rattle.nosingginger.proofs.accepted.Reads as accepted-reads
-use Rattle.nosingginger.proofs.refused.Reads as refused-reads
 
 -- what each test has shown where it was passed
 players-in : (c : tie.Else1) → In 2 (c .before .before .args .players) 6

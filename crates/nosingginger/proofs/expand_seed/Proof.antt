@@ -3,9 +3,6 @@ use Rattle.nosingginger.proofs.Answering.{expand-seed-refused, expand-r
 use borrow.Author.Needs.{needs}
 use Rattle.nosingginger.proofs.expand_seed.Statement.{statement}
 use Rattle.nosingginger.proofs.expand_seed.Tie as tie
-use Rattle.nosingginger.proofs.expand_seed.Reads as reads
-use Rattle.nosingginger.proofs.expand_seed.Lts as lts
-use Rattle.chacha20.proofs.expand.Reads as expand-reads
 
 returns : tie.Need-returns
 returns c = expand-seed-refused _ _ (c .if1 .taken)

@@ -1,8 +1,7 @@
 -- `nosingginger::join_shares` meets its contract. Assumes nothing.
 use mathlib.Core.Path.{_≡_, refl, sym, ap, _∙_}
 use Prim.Native.Nat.{ℕ, _*_, _≤_}
-use native.Mathlib.Omega.{arith}
-use lib.ListN.{length, take, drop}
+use lib.ListN.{length}
 use lib.Seq.{length-front, length-take-le}
 use denote.Ref.{now}
 use borrow.Author.Needs.{needs}
@@ -11,10 +10,6 @@ use Rattle.nosingginger.proofs.Answering.{put-refused, put-done, in-fro
 use Rattle.nosingginger.proofs.Joining.{shares-fit}
 use Rattle.nosingginger.proofs.join_shares.Statement.{statement}
 use Rattle.nosingginger.proofs.join_shares.Tie as tie
-use Rattle.nosingginger.proofs.join_shares.Reads as reads
-use Rattle.nosingginger.proofs.join_shares.Lts as lts
-use Rattle.nosingginger.proofs.shares.joined.Reads as joined-reads
-use Rattle.nosingginger.proofs.shares.shares_refusal.Reads as shares-refusal-reads
 
 -- what is known where nothing refuses
 fit : (c : tie.Else1) → let a = c .before .before .before .before .args in

@@ -1,5 +1,5 @@
 -- `nosingginger::key_length` meets its contract. Assumes nothing.
-use mathlib.Core.Path.{_≡_, sym, _∙_}
+use mathlib.Core.Path.{sym, _∙_}
 use native.Mathlib.Omega.{arith}
 use Rattle.nosingginger.specs.Entry.{Long-says}
 use Rattle.nosingginger.proofs.Answering.{says-refused, says-value}
@@ -7,12 +7,6 @@ use Rattle.nosingginger.proofs.Sizes.{key-most}
 use borrow.Author.Needs.{needs}
 use Rattle.nosingginger.proofs.key_length.Statement.{statement}
 use Rattle.nosingginger.proofs.key_length.Tie as tie
-use Rattle.nosingginger.proofs.key_length.Reads as reads
-use Rattle.nosingginger.proofs.key_length.Lts as lts
-use Rattle.grid.proofs.board.Board.refusal.Reads as refusal-reads
-use Rattle.keys.proofs.length.key_length.Reads as key-length-reads
-use Rattle.nosingginger.proofs.accepted.Reads as accepted-reads
-use Rattle.nosingginger.proofs.refused.Reads as refused-reads
 
 refusal-requires : tie.Need-refusal-requires
 refusal-requires c κs = search needs

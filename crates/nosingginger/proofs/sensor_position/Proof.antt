@@ -4,11 +4,6 @@ use Rattle.nosingginger.proofs.Answering.{sensor-refused, sensor-given}
 use borrow.Author.Needs.{needs}
 use Rattle.nosingginger.proofs.sensor_position.Statement.{statement}
 use Rattle.nosingginger.proofs.sensor_position.Tie as tie
-use Rattle.nosingginger.proofs.sensor_position.Reads as reads
-use Rattle.nosingginger.proofs.sensor_position.Lts as lts
-use Rattle.grid.proofs.sensor.sensor_place.Reads as sensor-place-reads
-use Rattle.nosingginger.proofs.accepted.Reads as accepted-reads
-use Rattle.nosingginger.proofs.refused.Reads as refused-reads
 
 refused-requires : tie.Need-refused-requires
 refused-requires c κs = search needs

@@ -1,5 +1,4 @@
 -- `opening::open_part` meets its contract. Assumes nothing.
-use lib.ListN.{length}
 use denote.Ref.{now}
 use Rattle.xor.specs.Xor.{zeros}
 use Rattle.grid.specs.Code.{board-of}

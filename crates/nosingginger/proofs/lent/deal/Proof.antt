@@ -1,5 +1,5 @@
 -- `nosingginger::lent::deal` meets its contract. Assumes nothing.
-use mathlib.Core.Path.{_≡_, sym, _∙_}
+use mathlib.Core.Path.{sym, _∙_}
 use native.Mathlib.Omega.{arith}
 use Rattle.grid.specs.Grid.{board}
 use Rattle.nosingginger.specs.Entry.{lent}

@@ -3,9 +3,6 @@ use Rattle.nosingginger.proofs.InTurn.{both-same, first-other}
 use borrow.Author.Needs.{needs}
 use Rattle.nosingginger.proofs.places.in_place.Statement.{statement}
 use Rattle.nosingginger.proofs.places.in_place.Tie as tie
-use Rattle.nosingginger.proofs.places.in_place.Reads as reads
-use Rattle.nosingginger.proofs.places.in_place.Lts as lts
-use Rattle.nosingginger.proofs.places.same_board.Reads as same-board-reads
 
 same-board-requires : tie.Need-same-board-requires
 same-board-requires c κs = search needs

@@ -10,11 +10,6 @@ use Rattle.nosingginger.proofs.InTurn.{numbers-fine, keys-numbers, keys
 use Rattle.nosingginger.proofs.Sizes.{keys-short, table-most}
 use Rattle.nosingginger.proofs.places.keys_refusal.Statement.{statement}
 use Rattle.nosingginger.proofs.places.keys_refusal.Tie as tie
-use Rattle.nosingginger.proofs.places.keys_refusal.Reads as reads
-use Rattle.nosingginger.proofs.places.keys_refusal.Lts as lts
-use Rattle.keys.proofs.length.key_length.Reads as key-length-reads
-use Rattle.nosingginger.proofs.places.numbers_refusal.Reads as numbers-refusal-reads
-use Rattle.nosingginger.proofs.places.places_refusal.Reads as places-refusal-reads
 
 -- the first header's own numbers refuse nothing
 fine : (c : tie.Else1) → let h = c .before .before .before .args .header in numbers-refusal (board-of (h .board)) (h .player) ≡ 0

@@ -1,13 +1,10 @@
 -- `nosingginger::places::numbers_refusal` meets its contract: each answer is a link of the chain. Assumes nothing.
-use mathlib.Core.Path.{_≡_, sym, _∙_}
+use mathlib.Core.Path.{sym, _∙_}
 use Rattle.grid.specs.Grid.{board}
 use Rattle.nosingginger.proofs.InTurn.{numbers-board, numbers-player, numbers-none}
 use borrow.Author.Needs.{needs}
 use Rattle.nosingginger.proofs.places.numbers_refusal.Statement.{statement}
 use Rattle.nosingginger.proofs.places.numbers_refusal.Tie as tie
-use Rattle.nosingginger.proofs.places.numbers_refusal.Reads as reads
-use Rattle.nosingginger.proofs.places.numbers_refusal.Lts as lts
-use Rattle.grid.proofs.board.Board.refusal.Reads as refusal-reads
 
 refusal-requires : tie.Need-refusal-requires
 refusal-requires c κs = search needs

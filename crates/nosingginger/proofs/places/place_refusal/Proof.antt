@@ -1,16 +1,9 @@
 -- `nosingginger::places::place_refusal` meets its contract: each answer is a link of the chain. Assumes nothing.
-use mathlib.Core.Path.{_≡_, sym, _∙_}
+use mathlib.Core.Path.{sym, _∙_}
 use Rattle.nosingginger.proofs.InTurn.{place-number, place-numbers, place-other, place-marks, place-none}
 use borrow.Author.Needs.{needs}
 use Rattle.nosingginger.proofs.places.place_refusal.Statement.{statement}
 use Rattle.nosingginger.proofs.places.place_refusal.Tie as tie
-use Rattle.nosingginger.proofs.places.place_refusal.Reads as reads
-use Rattle.nosingginger.proofs.places.place_refusal.Lts as lts
-use Rattle.keys.proofs.grid_row.marks_good.Reads as marks-good-reads
-use Rattle.keys.proofs.grid_row.part_from.Reads as part-from-reads
-use Rattle.keys.proofs.reader.header_in.Reads as header-in-reads
-use Rattle.nosingginger.proofs.places.in_place.Reads as in-place-reads
-use Rattle.nosingginger.proofs.places.numbers_refusal.Reads as numbers-refusal-reads
 
 header-in-requires : tie.Need-header-in-requires
 header-in-requires c κs = search needs

@@ -1,19 +1,13 @@
 -- `nosingginger::places::places_refusal` meets its contract. The loop's invariant: the keys before this place are passed. Assumes nothing.
-use mathlib.Core.Path.{_≡_, sym, _∙_}
-use Prim.Native.Nat.{ℕ, _+_, _*_, _-_, _≤_}
+use Prim.Native.Nat.{_+_, _-_, _≤_}
 use native.Mathlib.Omega.{arith}
 use lib.ListN.{length}
 use denote.Ref.{now}
-use borrow.Author.Needs.{needs}
 use Rattle.grid.specs.Grid.{board}
 use Rattle.grid.specs.Code.{board-of}
 use Rattle.nosingginger.proofs.InTurn.{Passed, none-passed, turn-refused, turn-passed, all-passed, key-inside}
 use Rattle.nosingginger.proofs.places.places_refusal.Statement.{statement}
 use Rattle.nosingginger.proofs.places.places_refusal.Tie as tie
-use Rattle.nosingginger.proofs.places.places_refusal.Reads as reads
-use Rattle.nosingginger.proofs.places.places_refusal.Lts as lts
-use Rattle.keys.proofs.length.key_length.Reads as key-length-reads
-use Rattle.nosingginger.proofs.places.place_refusal.Reads as place-refusal-reads
 
 abbrev Inv-loop : tie.InvT-loop
 Inv-loop board keys long place₀ at₀ place at = Passed (board .players) (board-of board) keys place at

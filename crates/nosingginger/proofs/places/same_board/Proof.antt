@@ -3,8 +3,6 @@ use Rattle.grid.specs.Grid.{board}
 use Rattle.nosingginger.proofs.InTurn.{other-players, other-positions, other-width, same-but-bytes}
 use Rattle.nosingginger.proofs.places.same_board.Statement.{statement}
 use Rattle.nosingginger.proofs.places.same_board.Tie as tie
-use Rattle.nosingginger.proofs.places.same_board.Reads as reads
-use Rattle.nosingginger.proofs.places.same_board.Lts as lts
 
 returns : tie.Need-returns
 unfolding board

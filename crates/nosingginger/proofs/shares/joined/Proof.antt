@@ -9,10 +9,6 @@ use Rattle.nosingginger.specs.Entry.{joined-shares}
 use Rattle.nosingginger.proofs.Joining.{inside, part-whole, joined-none, share-more, joined-all}
 use Rattle.nosingginger.proofs.shares.joined.Statement.{statement}
 use Rattle.nosingginger.proofs.shares.joined.Tie as tie
-use Rattle.nosingginger.proofs.shares.joined.Reads as reads
-use Rattle.nosingginger.proofs.shares.joined.Lts as lts
-use Rattle.writer.proofs.clear.Reads as clear-reads
-use Rattle.xor.proofs.xor_into.Reads as xor-into-reads
 
 abbrev Inv-loop : tie.InvT-loop
 Inv-loop players shares out₀ share player₀ end₀ out player end =

@@ -1,6 +1,4 @@
 -- `nosingginger::shares::shares_refusal` meets its contract: each answer is a link of the chain. Assumes nothing.
-use mathlib.Core.Path.{_≡_}
-use Prim.Native.Nat.{_*_, _≤_}
 use native.Mathlib.Nat.{mul-le-mul}
 use native.Mathlib.Omega.{arith}
 use Rattle.grid.proofs.Refusing.{In, in-range, passed, failed}
@@ -8,9 +6,6 @@ use Rattle.nosingginger.proofs.Joining.{shares-1, shares-4, shares-7, s
 use borrow.Author.Needs.{needs}
 use Rattle.nosingginger.proofs.shares.shares_refusal.Statement.{statement}
 use Rattle.nosingginger.proofs.shares.shares_refusal.Tie as tie
-use Rattle.nosingginger.proofs.shares.shares_refusal.Reads as reads
-use Rattle.nosingginger.proofs.shares.shares_refusal.Lts as lts
-use Rattle.grid.proofs.board.within.Reads as within-reads
 
 -- what each test has shown where it was passed
 players-in : (c : tie.Else1) → In 2 (c .before .before .args .players) 6

@@ -1,5 +1,5 @@
 -- `nosingginger::square::open_one` meets its contract. Assumes nothing.
-use mathlib.Core.Path.{_≡_, sym, ap, _∙_}
+use mathlib.Core.Path.{sym, ap, _∙_}
 use denote.Ref.{now}
 use Rattle.keys.specs.Answers.{checked-as}
 use Rattle.keys.proofs.Holding.{Accepted-as, accepted-says}

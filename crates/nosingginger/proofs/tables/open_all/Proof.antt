@@ -1,5 +1,5 @@
 -- `nosingginger::tables::open_all` meets its contract. Assumes nothing.
-use mathlib.Core.Path.{_≡_, sym, ap, _∙_}
+use mathlib.Core.Path.{sym, ap, _∙_}
 use denote.Ref.{now}
 use Rattle.keys.specs.Answers.{checked-as}
 use Prim.Native.Nat.{_*_, _≤_}
