@@ -31,12 +31,11 @@ dealing-program-requires : tie.Need-dealing-program-requires
 dealing-program-requires c κs = search needs
 
 array-share-prefix-output : tie.Need-array-share-prefix-output
-array-share-prefix-output c = let p = c .before .dealing-program in omega (arith, writes-within _ _ _ _ (p .ensures), p .kept .1 .0)
+array-share-prefix-output c = writes-within _ _ _ _ (c .before .dealing-program .ensures)
 
 slice-aggregate-write-all : tie.Need-slice-aggregate-write-all
 slice-aggregate-write-all c =
-    let p = c .before .before .dealing-program in
-    sym (length-take-le (p .result) (p .last .1 .0) (omega (arith, writes-within _ _ _ _ (p .ensures), p .kept .1 .0)))
+    let p = c .before .before .dealing-program in sym (length-take-le (p .result) (p .last .1 .0) (writes-within _ _ _ _ (p .ensures)))
 
 write-all-requires : tie.Need-write-all-requires
 write-all-requires c κs = search needs

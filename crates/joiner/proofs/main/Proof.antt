@@ -34,12 +34,11 @@ joining-program-requires : tie.Need-joining-program-requires
 joining-program-requires c κs = search needs
 
 array-share-prefix-output : tie.Need-array-share-prefix-output
-array-share-prefix-output c = let p = c .before .before .joining-program in omega (arith, joins-within _ _ _ _ _ _ _ (p .ensures), p .kept .1 .1 .0)
+array-share-prefix-output c = joins-within _ _ _ _ _ _ _ (c .before .before .joining-program .ensures)
 
 slice-aggregate-write-all : tie.Need-slice-aggregate-write-all
 slice-aggregate-write-all c =
-    let p = c .before .before .before .joining-program in
-    sym (length-take-le (p .result) (p .last .1 .1 .0) (omega (arith, joins-within _ _ _ _ _ _ _ (p .ensures), p .kept .1 .1 .0)))
+    let p = c .before .before .before .joining-program in sym (length-take-le (p .result) (p .last .1 .1 .0) (joins-within _ _ _ _ _ _ _ (p .ensures)))
 
 write-all-requires : tie.Need-write-all-requires
 write-all-requires c κs = search needs
