@@ -146,9 +146,10 @@ pub joins-none : (bs t o : List ℕ) → length t < 65536 → Joins (leb 65536 (
 unfolding Joins
 joins-none bs t o h = rw (lt-leb 65536 (length t) h) (refl, refl, refl)
 
-pub joins-within : (enough : Bool) (bs : List ℕ) (r : ℕ) (t u o z : List ℕ) → Joins enough bs r t u o z → r ≤ length o
+-- no more is written than there is room for
+pub joins-within : (enough : Bool) (bs : List ℕ) (r : ℕ) (t u o z : List ℕ) → Joins enough bs r t u o z → r ≤ length z
 unfolding Joins
-joins-within true bs r t u o z says = writes-within (joining-output bs) r o z (says .0) .0
+joins-within true bs r t u o z says = writes-within (joining-output bs) r o z (says .0)
 joins-within false bs r t u o z says = omega (arith, says .0)
 
 -- the header of an accepted input, as the code has it

@@ -6,9 +6,9 @@ use Prim.Native.Nat.{ℕ, zero, suc, _≤_, _<_}
 use native.Mathlib.Omega.{arith}
 use native.Mathlib.Nat.{zero-add}
 use lib.Dec.{ltb}
-use lib.ListN.{length, take, drop, length-append, length-drop, take-append-drop}
+use lib.ListN.{length, take, drop, length-append, take-append-drop}
 use lib.Seq.{length-take-le, drop-append-le}
-use borrow.Author.Tests.{lt-ltb, le-ltb, ltb-false}
+use borrow.Author.Tests.{lt-ltb, le-ltb}
 use Rattle.writer.specs.Written.{Wrote}
 use Rattle.writer.proofs.Laws.{written-front}
 use Rattle.nosingginger.specs.Entry.{in-front, Put-says}
@@ -45,12 +45,10 @@ put-front zero bs r k o last within room p =
 put-front (suc n) bs r k o last within room p = (p .0, ap (λ (l : List ℕ). l ++ drop k o) (p .1) ∙ take-append-drop k o)
 
 -- no more is written than there is room for
-pub writes-within : (bs : List ℕ) (r : ℕ) (o z : List ℕ) → Writes bs r o z → (r ≤ length o) × (length z ≡ length o)
+pub writes-within : (bs : List ℕ) (r : ℕ) (o z : List ℕ) → Writes bs r o z → r ≤ length z
 unfolding Writes in-front
-writes-within bs r o z w = go (ltb (length o) (length bs)) refl (w .0) (w .1)
+writes-within bs r o z w = go (ltb (length o) (length bs)) (w .0) (w .1)
   where
-    go : (t : Bool) → ltb (length o) (length bs) ≡ t → r ≡ cond t 0 (length bs) → z ≡ cond t o (bs ++ drop (length bs) o) → (r ≤ length o) × (length z ≡ length o)
-    go true e p q = (omega arith, ap length q)
-    go false e p q =
-        let room = ltb-false (length o) (length bs) e in
-        (omega arith, ap length q ∙ length-append bs (drop (length bs) o) ∙ omega (arith, length-drop (length bs) o))
+    go : (t : Bool) → r ≡ cond t 0 (length bs) → z ≡ cond t o (bs ++ drop (length bs) o) → r ≤ length z
+    go true p q = omega arith
+    go false p q = omega (arith, ap length q, length-append bs (drop (length bs) o))

@@ -5,7 +5,6 @@ mod joiner;
 
 pub use dealer::dealing_program;
 pub use joiner::joining_program;
-
 ghost use Prim.Native.Nat.{_*_, _≤_};
 ghost use mathlib.Core.Path.{_≡_};
 ghost use lib.ListN.{length};

@@ -1,0 +1,59 @@
+-- `dealer::main` is safe: no more is written than the output has room for. Assumes nothing.
+use mathlib.Core.Path.{sym}
+use native.Mathlib.Omega.{arith}
+use lib.Seq.{length-take-le}
+use Rattle.programs.proofs.Writing.{writes-within}
+use borrow.Author.Needs.{needs}
+use Rattle.dealer.proofs.main.Statement.{statement}
+use Rattle.dealer.proofs.main.Tie as tie
+use Rattle.dealer.proofs.main.Reads as reads
+use Rattle.dealer.proofs.main.Lts as lts
+use Rattle.io.proofs.read_full.Reads as read-full-reads
+use Rattle.io.proofs.write_all.Reads as write-all-reads
+use Rattle.programs.proofs.dealing_program.Reads as dealing-program-reads
+
+slice-aggregate-read-full : tie.Need-slice-aggregate-read-full
+slice-aggregate-read-full c = search needs
+
+read-full-requires : tie.Need-read-full-requires
+read-full-requires c κs = search needs
+
+array-share-prefix-input : tie.Need-array-share-prefix-input
+array-share-prefix-input c = search needs
+
+slice-aggregate-dealing-program : tie.Need-slice-aggregate-dealing-program
+slice-aggregate-dealing-program c = search needs
+
+slice-aggregate-dealing-program-2 : tie.Need-slice-aggregate-dealing-program-2
+slice-aggregate-dealing-program-2 c = search needs
+
+dealing-program-requires : tie.Need-dealing-program-requires
+dealing-program-requires c κs = search needs
+
+array-share-prefix-output : tie.Need-array-share-prefix-output
+array-share-prefix-output c = writes-within _ _ _ _ (c .before .dealing-program .ensures)
+
+slice-aggregate-write-all : tie.Need-slice-aggregate-write-all
+slice-aggregate-write-all c =
+    let p = c .before .before .dealing-program in sym (length-take-le (p .result) (p .last .1 .0) (writes-within _ _ _ _ (p .ensures)))
+
+write-all-requires : tie.Need-write-all-requires
+write-all-requires c κs = search needs
+
+returns : tie.Need-returns
+returns c = search needs
+
+pub main-spec : {M : Type 1} → statement M
+main-spec =
+    tie.close
+    (tie.spec
+    slice-aggregate-read-full
+    read-full-requires
+    array-share-prefix-input
+    slice-aggregate-dealing-program
+    slice-aggregate-dealing-program-2
+    dealing-program-requires
+    array-share-prefix-output
+    slice-aggregate-write-all
+    write-all-requires
+    returns)
