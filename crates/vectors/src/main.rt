@@ -1,10 +1,14 @@
-// Test vectors: RFC 8439's quarter round (2.1.1), block (2.3.2) and key streams (A.1), as the RFC prints them, and expansions of two
-// seeds against the key streams that OpenSSL wrote into data/ (make-data.sh). Each is compared byte for byte as the program runs, and
-// a line says whether they are equal. Assumes nothing.
+// Test vectors: RFC 8439's quarter round (2.1.1), block (2.3.2) and key streams (A.1), as the RFC prints them, expansions of two seeds
+// against the key streams that OpenSSL wrote into data/ (make-data.sh), and those lines of document 01 that are not marked †. Each is
+// compared as the program runs, and a line says whether they are equal. Assumes nothing.
 ghost use mathlib.Core.Path.{_≡_};
 ghost use Prim.Native.Nat.{_≤_};
 ghost use lib.ListN.{length};
+use grid::board::Board;
+use keys::reader::Number;
+use keys::reader::Reader;
 use libc::STDOUT_FILENO;
+use nosingginger::Answer;
 
 // The end of a line: what a comparison has found.
 fn found(equal: bool) {
@@ -179,6 +183,68 @@ fn expansions(name: &[u8], seed_path: &[u8], stream_path: &[u8]) {
     expansion(name, seed_path, stream_path, 4096);
 }
 
+fn document_01(line: &[u8]) {
+    io::write_all(STDOUT_FILENO, b"document 01, ");
+    io::write_all(STDOUT_FILENO, line);
+}
+
+// A header number in groups of seven bits.
+fn number(line: &[u8], bytes: &[u8], expected: u32) {
+    document_01(line);
+    let start = Reader { at: 0 };
+    match start.number(bytes) {
+        Number::Whole(value, _) => found(value == expected),
+        Number::Broken => found(false),
+    }
+}
+
+// A number and a value that an operation answers.
+fn answer(line: &[u8], got: Answer, refusal: u32, value: u32) {
+    document_01(line);
+    if got.refusal == refusal {
+        found(got.value == value);
+    } else {
+        found(false);
+    }
+}
+
+// The largest board has 256 grid rows at the largest width.
+fn grid_rows(line: &[u8], expected: usize) {
+    document_01(line);
+    let board = Board {
+        players: 2,
+        positions: 65536,
+        width: 256,
+        value_bytes: 1,
+    };
+    if board.refusal() == 0 {
+        found(board.grid_rows() == expected);
+    } else {
+        found(false);
+    }
+}
+
+fn lines_of_document_01() {
+    number(b"72 is 48", b"\x48", 72);
+    number(b"128 is 80 01", b"\x80\x01", 128);
+    number(b"65536 is 80 80 04", b"\x80\x80\x04", 65536);
+    grid_rows(b"65536 positions at width 256 have 256 grid rows", 256);
+    answer(
+        b"65536 positions at width 255 are refused by 5",
+        nosingginger::key_length(2, 65536, 255, 1),
+        5,
+        0,
+    );
+    answer(b"sensor 8 is 15", nosingginger::sensor_position(8), 0, 15);
+    answer(b"sensor 71 is 71", nosingginger::sensor_position(71), 0, 71);
+    answer(
+        b"sensor 72 is refused by 17",
+        nosingginger::sensor_position(72),
+        17,
+        0,
+    );
+}
+
 fn main() {
     quarter_round();
     block_2_3_2();
@@ -189,4 +255,5 @@ fn main() {
     key_stream_5();
     expansions(b"first", b"first.seed", b"first.stream");
     expansions(b"second", b"second.seed", b"second.stream");
+    lines_of_document_01();
 }
