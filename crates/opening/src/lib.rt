@@ -117,7 +117,7 @@ fn least(first: usize, second: usize) -> usize
 
 // XORs the full table into `out`, which has its length, grid row by grid row: each held seed is expanded once. Rows and words have all cells
 // of a short last grid row, the table those below N. `row` has a row's length and is scratch.
-fn add_rows(key: &[u8], header: Header, row: &mut [u8], out: &mut [u8])
+pub fn add_rows(key: &[u8], header: Header, row: &mut [u8], out: &mut [u8])
     requires { ⌜ Accepted-with (now key) «header» × (length (now row) ≡ row-long (board-of («header» .board)))
         × (length (now out) ≡ «header» .board .positions * «header» .board .«value_bytes») ⌝ }
     ensures { λ r. ⌜ now (out .exit) ≡ xors (now (out .entry)) (table (expand (row-long (board-of («header» .board)))) (now (key .entry))) ⌝ }
@@ -161,15 +161,4 @@ pub fn open_table(key: &[u8], header: Header, out: &mut [u8])
     let row_bytes = board.row_length();
     let count = (board.positions * board.value_bytes) as usize;
     open_rows(key, header, &mut scratch[..row_bytes], &mut out[..count]);
-}
-
-// XORs the full table into `out`.
-pub fn add_table(key: &[u8], header: Header, out: &mut [u8])
-    requires { ⌜ Accepted-with (now key) «header» × (length (now out) ≡ «header» .board .positions * «header» .board .«value_bytes») ⌝ }
-    ensures { λ r. ⌜ now (out .exit) ≡ xors (now (out .entry)) (table (expand (row-long (board-of («header» .board)))) (now (key .entry))) ⌝ }
-{
-    let board = header.board;
-    let mut scratch = [0u8; 4096];
-    let row_bytes = board.row_length();
-    add_rows(key, header, &mut scratch[..row_bytes], out);
 }
