@@ -1,0 +1,127 @@
+// The C interface: the eleven operations as C functions, each over the call of its name. A slice is a pointer and a length. Results are
+// u32 or u64, and everything else is written through pointers, so that one module serves every machine. Assumes nothing.
+use keys::held::held_seed_place;
+use nosingginger::Answer;
+use nosingginger::KeyCheck;
+use nosingginger::refusals::ACCEPTED;
+
+// Writes the value of an accepted answer; answers the number.
+fn put_value(answer: Answer, value: &mut u32) -> u32 {
+    if answer.refusal == ACCEPTED {
+        *value = answer.value;
+    }
+    answer.refusal
+}
+
+// KEY LENGTH: the bytes of each player's key.
+#[no_mangle]
+pub extern "C" fn nsg_key_length(
+    players: u32,
+    positions: u32,
+    width: u32,
+    value_bytes: u32,
+    length: &mut u32,
+) -> u32 {
+    put_value(
+        nosingginger::key_length(players, positions, width, value_bytes),
+        length,
+    )
+}
+
+// DEAL: the keys of all players one after another.
+#[no_mangle]
+pub extern "C" fn nsg_deal(
+    players: u32,
+    positions: u32,
+    width: u32,
+    value_bytes: u32,
+    point: u32,
+    value: &[u8],
+    arrays: &[u8],
+    seeds: &[u8],
+    words: &[u8],
+    keys: &mut [u8],
+) -> u32 {
+    nosingginger::deal(
+        players,
+        positions,
+        width,
+        value_bytes,
+        point,
+        value,
+        arrays,
+        seeds,
+        words,
+        keys,
+    )
+}
+
+// CHECK KEY: the header's five numbers.
+#[no_mangle]
+pub extern "C" fn nsg_check_key(key: &[u8], header: &mut [u32; 5]) -> u32 {
+    match nosingginger::check_key(key) {
+        KeyCheck::Refused(number) => number,
+        KeyCheck::Accepted(read) => {
+            let board = read.board;
+            header[0] = board.players;
+            header[1] = read.player;
+            header[2] = board.positions;
+            header[3] = board.width;
+            header[4] = board.value_bytes;
+            ACCEPTED
+        }
+    }
+}
+
+// OPEN ONE: the share of one square.
+#[no_mangle]
+pub extern "C" fn nsg_open_one(key: &[u8], position: u32, out: &mut [u8]) -> u32 {
+    nosingginger::open_one(key, position, out)
+}
+
+// OPEN ALL: the full table.
+#[no_mangle]
+pub extern "C" fn nsg_open_all(key: &[u8], out: &mut [u8]) -> u32 {
+    nosingginger::open_all(key, out)
+}
+
+// JOIN SHARES: the XOR of the shares of all players.
+#[no_mangle]
+pub extern "C" fn nsg_join_shares(
+    players: u32,
+    value_bytes: u32,
+    shares: &[u8],
+    out: &mut [u8],
+) -> u32 {
+    nosingginger::join_shares(players, value_bytes, shares, out)
+}
+
+// JOIN KEYS: the XOR of all tables.
+#[no_mangle]
+pub extern "C" fn nsg_join_keys(keys: &[u8], out: &mut [u8]) -> u32 {
+    nosingginger::join_keys(keys, out)
+}
+
+// HELD SEED: where the 32 bytes begin in the caller's key; 0 where there are none.
+#[no_mangle]
+pub extern "C" fn nsg_held_seed(key: &[u8], grid_row: u32, column: u32) -> u64 {
+    held_seed_place(key, grid_row, column) as u64
+}
+
+// EXPAND: the first bytes of the seed's key stream.
+#[no_mangle]
+pub extern "C" fn nsg_expand(seed: &[u8], out: &mut [u8]) -> u32 {
+    nosingginger::expand_seed(seed, out)
+}
+
+// CHOOSE WIDTH.
+#[no_mangle]
+pub extern "C" fn nsg_choose_width(players: u32, positions: u32, width: &mut u32) -> u32 {
+    put_value(nosingginger::choose_width(players, positions), width)
+}
+
+// SENSOR POSITION.
+#[no_mangle]
+pub extern "C" fn nsg_sensor_position(sensor: u32, position: &mut u32) -> u32 {
+    put_value(nosingginger::sensor_position(sensor), position)
+}
