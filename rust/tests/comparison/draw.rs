@@ -1,6 +1,6 @@
 //! Draws: numbers at and beyond their limits, lengths of outputs, boards.
 
-use reference::board::{Board, FEWEST_PLAYERS, MOST_GRID_WIDTH, MOST_PLAYERS, MOST_POSITIONS, MOST_VALUE_WIDTH};
+use reference::board::{Board, FEWEST_PLAYERS, MOST_GRID_ROWS, MOST_GRID_WIDTH, MOST_PLAYERS, MOST_POSITIONS, MOST_VALUE_WIDTH};
 use reference::draw::Generator;
 
 pub trait Draw {
@@ -60,8 +60,10 @@ impl Draw for Generator {
             let most_width = self.pick(&[1, 8, 30, MOST_GRID_WIDTH]);
             let most_value = self.pick(&[1, 4, MOST_VALUE_WIDTH]);
             let players = self.within(FEWEST_PLAYERS, MOST_PLAYERS);
-            let positions = self.within(1, most_positions);
             let width = if self.one_in(12) { most_width } else { self.within(1, most_width) };
+            // The most grid rows, sometimes, and the last of them short or whole.
+            let positions =
+                if self.one_in(12) { MOST_GRID_ROWS * width - self.within(0, width - 1) } else { self.within(1, most_positions) };
             let value = if self.one_in(12) { most_value } else { self.within(1, most_value) };
             match Board::new(players, positions, width, value) {
                 Ok(board) if cost(&board) <= most_cost => return board,

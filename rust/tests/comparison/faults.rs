@@ -2,7 +2,7 @@
 
 use crate::calls::Hand;
 use crate::draw::Draw;
-use reference::board::{Board, MOST_GRID_WIDTH, MOST_PLAYERS, MOST_POSITIONS, MOST_VALUE_WIDTH};
+use reference::board::{Board, FEWEST_PLAYERS, MOST_GRID_WIDTH, MOST_PLAYERS, MOST_POSITIONS, MOST_VALUE_WIDTH};
 use reference::draw::{Drawn, Generator};
 use reference::key::{header_of, key_bytes};
 use reference::numbers::groups;
@@ -54,7 +54,7 @@ pub fn faulty_hand(drawn: &Drawn, generator: &mut Generator) -> Hand {
 fn fault_of_hand(hand: &mut Hand, drawn: &Drawn, generator: &mut Generator) {
     let board = drawn.board;
     match generator.below(13) {
-        0 => hand.numbers[0] = generator.near(2, MOST_PLAYERS),
+        0 => hand.numbers[0] = generator.near(FEWEST_PLAYERS, MOST_PLAYERS),
         1 => hand.numbers[1] = generator.near(1, MOST_POSITIONS),
         2 => hand.numbers[2] = generator.near(1, MOST_GRID_WIDTH),
         3 => hand.numbers[3] = generator.near(1, MOST_VALUE_WIDTH),
@@ -79,7 +79,8 @@ fn fault_of_arrays(arrays: &mut [u8], board: Board, generator: &mut Generator) {
     if arrays.len() < columns {
         return;
     }
-    let start = generator.below(arrays.len() / columns) * columns;
+    let drawn = generator.below(arrays.len() / columns);
+    let start = generator.pick(&[drawn, 0, arrays.len() / columns - 1]) * columns;
     let array = &mut arrays[start..][..columns];
     let (place, other) = (generator.below(columns), generator.below(columns));
     match generator.below(7) {
@@ -150,7 +151,8 @@ impl Draft {
     fn fault_of_marks(&mut self, generator: &mut Generator) {
         let board = self.board;
         let columns = board.columns();
-        let start = generator.below(board.grid_rows()) * board.key_row_bytes();
+        let drawn = generator.below(board.grid_rows());
+        let start = generator.pick(&[drawn, 0, board.grid_rows() - 1]) * board.key_row_bytes();
         let Some(marks) = self.body.get_mut(start..start + board.mark_bytes()) else {
             return;
         };

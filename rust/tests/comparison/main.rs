@@ -2,7 +2,7 @@
 //! Each answer and each written byte must be the same, a refused call must leave every lent byte, and an accepted one every byte past its
 //! result. Every refusal that document 01 lets an operation give must have been met.
 //!
-//! NOSINGGINGER_CALLS asks for more calls than 100,000; NOSINGGINGER_SEED, a decimal number, for other draws.
+//! NOSINGGINGER_CALLS asks for more calls than 200,000; NOSINGGINGER_SEED, a decimal number, for other draws.
 
 mod calls;
 mod draw;
@@ -20,7 +20,7 @@ use std::time::Instant;
 use tally::Tally;
 
 /// The least calls of a run.
-const LEAST_CALLS: u64 = 100_000;
+const LEAST_CALLS: u64 = 200_000;
 const USUAL_SEED: u64 = 20_151_015;
 
 /// A decimal number of the environment.

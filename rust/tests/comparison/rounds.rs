@@ -4,7 +4,7 @@ use crate::calls::Comparison;
 use crate::draw::{as_long, cost, Draw};
 use crate::faults::{faulty_hand, faulty_key, hand, Keys};
 use crate::tally::Operation;
-use reference::board::{Board, MOST_PLAYERS, MOST_POSITIONS, MOST_VALUE_WIDTH};
+use reference::board::{Board, FEWEST_PLAYERS, MOST_GRID_WIDTH, MOST_PLAYERS, MOST_POSITIONS, MOST_VALUE_WIDTH};
 use reference::chacha::MOST_ROW_BYTES;
 use reference::draw::Drawn;
 use reference::key::key_bytes;
@@ -37,7 +37,7 @@ pub const LIMIT_BOARDS: [(u32, u32, u32, u32); 22] = [
     (6, 65_536, 256, 16),
 ];
 
-/// Boards up to this cost take many drawn calls.
+/// The costs of small, medium and large boards: the larger, the fewer of them are drawn, and the fewer calls of each.
 const SMALL: usize = 1_500;
 const MEDIUM: usize = 20_000;
 const LARGE: usize = 200_000;
@@ -133,10 +133,10 @@ impl Comparison {
     fn drawn_call(&mut self, round: &Round) {
         match self.drawn_operation() {
             Operation::KeyLength => {
-                let numbers = [MOST_PLAYERS, MOST_POSITIONS, 256, MOST_VALUE_WIDTH];
-                let [players, positions, width, value] =
-                    numbers.map(|most| self.generator.near(if most == MOST_PLAYERS { 2 } else { 1 }, most));
-                self.key_length([players, positions, width, value]);
+                let least = [FEWEST_PLAYERS, 1, 1, 1];
+                let most = [MOST_PLAYERS, MOST_POSITIONS, MOST_GRID_WIDTH, MOST_VALUE_WIDTH];
+                let numbers = [0, 1, 2, 3].map(|number| self.generator.near(least[number], most[number]));
+                self.key_length(numbers);
             }
             Operation::Deal => {
                 let hand = faulty_hand(&round.drawn, &mut self.generator);
@@ -206,7 +206,7 @@ impl Comparison {
     }
 
     fn drawn_join_shares(&mut self) {
-        let (players, value_bytes) = (self.generator.near(2, MOST_PLAYERS), self.generator.near(1, MOST_VALUE_WIDTH));
+        let (players, value_bytes) = (self.generator.near(FEWEST_PLAYERS, MOST_PLAYERS), self.generator.near(1, MOST_VALUE_WIDTH));
         let exact = players.wrapping_mul(value_bytes).min(1_000) as usize;
         let length = self.generator.pick(&[exact, exact, exact, exact, exact, exact.saturating_sub(1), exact + 1, 0]);
         let shares = self.generator.bytes(length);
@@ -227,9 +227,9 @@ impl Comparison {
 
     /// Positions at random, and about the squares where the width steps.
     fn drawn_choose_width(&mut self) {
-        let players = self.generator.near(2, MOST_PLAYERS);
+        let players = self.generator.near(FEWEST_PLAYERS, MOST_PLAYERS);
         let mut positions = self.generator.near(1, MOST_POSITIONS);
-        if (2..=MOST_PLAYERS).contains(&players) && self.generator.one_in(2) {
+        if (FEWEST_PLAYERS..=MOST_PLAYERS).contains(&players) && self.generator.one_in(2) {
             let width = self.generator.within(1, 260);
             positions = width * width / (1 << (players - 1)) + self.generator.within(0, 1);
         }
