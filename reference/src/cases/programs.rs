@@ -9,6 +9,9 @@ use crate::draw::{Drawn, Generator};
 use crate::programs::{dealing_program, joining_program, refused};
 use std::collections::BTreeMap;
 
+/// p, N, μ and w.
+type Numbers = (u32, u32, u32, u32);
+
 /// The list's file: a line for each case, with a program, the file that it reads and the file
 /// that it writes, one space between them.
 pub const LIST: &str = "cases";
@@ -19,7 +22,7 @@ const START: u64 = 0x5072_6F67_7261_6D73;
 /// The boards (p, N, μ, w) of the accepted cases, each with the piece's position: every p; the
 /// spring board; the largest table, with the piece on its last square; four keys of 65,536
 /// bytes together.
-const BOARDS: [(&str, (u32, u32, u32, u32), usize); 6] = [
+const BOARDS: [(&str, Numbers, usize); 6] = [
     ("spring", (4, 72, 24, 1), 41),
     ("three", (3, 7, 3, 16), 5),
     ("five", (5, 3, 2, 2), 0),
@@ -27,6 +30,28 @@ const BOARDS: [(&str, (u32, u32, u32, u32), usize); 6] = [
     ("largest", (2, 65_536, 256, 1), 65_535),
     ("limit", (4, 606, 5, 16), 300),
 ];
+
+/// Five numbers of which one is broken, the others out of their range: 10.
+const BROKEN_HEADERS: [(&str, &[u8]); 2] = [
+    ("four-groups", &[7, 0, 0x80, 0x80, 0x80, 0x01, 0, 0]),
+    ("not-shortest", &[7, 0, 0, 0, 0x84, 0x00]),
+];
+
+/// Boards that 1 to 5 refuse, each with all the faults that come after its own.
+const WRONG_BOARDS: [(u32, &str, Numbers); 9] = [
+    (1, "one-player", (1, 0, 0, 0)),
+    (1, "seven-players", (7, 0, 0, 0)),
+    (2, "no-positions", (2, 0, 0, 0)),
+    (2, "positions-65537", (2, 65_537, 0, 0)),
+    (3, "width-0", (2, 65_536, 0, 0)),
+    (3, "width-257", (2, 65_536, 257, 0)),
+    (4, "value-0", (2, 65_536, 1, 0)),
+    (4, "value-17", (2, 65_536, 1, 17)),
+    (5, "grid-rows-257", (2, 257, 1, 16)),
+];
+
+/// Where the marks of both grid rows stand in a key of the printed deal.
+const MARKS: [usize; 2] = [5, 38];
 
 /// All files by their names.
 pub fn files() -> BTreeMap<String, Vec<u8>> {
@@ -66,12 +91,12 @@ impl Maker {
 
     /// A case: the program reads one file, and what it writes is the other.
     fn case(&mut self, program: Program, input: &str, output: &str) {
-        let (word, work): (_, fn(&[u8]) -> Vec<u8>) = match program {
-            Deal => ("deal", dealing_program),
-            Join => ("join", joining_program),
+        let read = &self.files[input];
+        let (word, written) = match program {
+            Deal => ("deal", dealing_program(read)),
+            Join => ("join", joining_program(read)),
         };
-        let bytes = work(&self.files[input]);
-        self.file(output, bytes);
+        self.file(output, written);
         self.list.push_str(&format!("{word} {input} {output}\n"));
     }
 
@@ -91,7 +116,7 @@ impl Maker {
         self.refused(program, number, &input);
     }
 
-    fn drawn(&mut self, numbers: (u32, u32, u32, u32), point: usize) -> Drawn {
+    fn drawn(&mut self, numbers: Numbers, point: usize) -> Drawn {
         Drawn::at(board(numbers), point, &mut self.generator)
     }
 
@@ -129,11 +154,11 @@ impl Maker {
     /// The dealing program's numbers, in its order.
     fn dealings(&mut self, right: &[u8]) {
         let (numbers, lent) = right.split_at(5);
-        for (refusal, name, header) in broken_headers() {
-            self.fault(Deal, refusal, name, [&header, lent].concat());
+        for (name, header) in BROKEN_HEADERS {
+            self.fault(Deal, 10, name, [header, lent].concat());
         }
         self.fault(Deal, 10, "cut-short", vec![2, 6, 4, 1, 0x84]);
-        for (refusal, name, [p, n, m, w]) in wrong_boards() {
+        for (refusal, name, (p, n, m, w)) in WRONG_BOARDS {
             let header = in_groups(&[p, n, m, w, 65_536]);
             self.fault(Deal, refusal, name, [&header, lent].concat());
         }
@@ -158,11 +183,11 @@ impl Maker {
     /// The joining program's numbers for the first key's header, in its order.
     fn first_keys(&mut self, first: &[u8], second: &[u8]) {
         let rest = [&first[5..], second].concat();
-        for (refusal, name, header) in broken_headers() {
-            self.fault(Join, refusal, name, [&header, &rest[..]].concat());
+        for (name, header) in BROKEN_HEADERS {
+            self.fault(Join, 10, name, [header, &rest].concat());
         }
         self.fault(Join, 10, "cut-short", first[..4].to_vec());
-        for (refusal, name, [p, n, m, w]) in wrong_boards() {
+        for (refusal, name, (p, n, m, w)) in WRONG_BOARDS {
             let header = in_groups(&[p, 9, n, m, w]);
             self.fault(Join, refusal, name, [&header, &rest[..]].concat());
         }
@@ -180,22 +205,20 @@ impl Maker {
             changed
         };
         // 12 comes before 15, and 15 before 13: player 1's key stands first, with no marks.
-        let wrong = changed(&[(1, 1), (5, 0)]);
+        let wrong = changed(&[(1, 1), (MARKS[0], 0)]);
         self.fault(Join, 12, "byte-missing", wrong[..wrong.len() - 1].to_vec());
         self.fault(Join, 12, "byte-too-many", [&wrong[..], &[0]].concat());
         self.fault(Join, 12, "one-key", wrong[..keys.len() / 2].to_vec());
         self.fault(Join, 15, "first-of-player-1", wrong);
         // The first key's 13 comes before the second's 10.
-        let second = keys.len() / 2;
-        let broken = (second, 0x80);
-        self.fault(Join, 13, "no-marks", changed(&[(5, 0), broken]));
-        self.fault(Join, 13, "all-marks", changed(&[(38, 3), broken]));
-        self.fault(
-            Join,
-            13,
-            "spare-bit",
-            changed(&[(38, keys[38] | 4), broken]),
-        );
+        let broken = (keys.len() / 2, 0x80);
+        for (name, place, marks) in [
+            ("no-marks", MARKS[0], 0),
+            ("all-marks", MARKS[1], 3),
+            ("spare-bit", MARKS[1], keys[MARKS[1]] | 4),
+        ] {
+            self.fault(Join, 13, name, changed(&[(place, marks), broken]));
+        }
     }
 
     /// The second key's own numbers, in their order. It has no marks, so 13 fits too.
@@ -207,10 +230,10 @@ impl Maker {
             let key = [header, &rest[..]].concat();
             [first, &key[..first.len()]].concat()
         };
-        for (refusal, name, header) in broken_headers() {
-            self.fault(Join, refusal, &format!("second-{name}"), with(&header));
+        for (name, header) in BROKEN_HEADERS {
+            self.fault(Join, 10, &format!("second-{name}"), with(header));
         }
-        for (refusal, name, [p, n, m, w]) in wrong_boards() {
+        for (refusal, name, (p, n, m, w)) in WRONG_BOARDS {
             let header = in_groups(&[p, 9, n, m, w]);
             self.fault(Join, refusal, &format!("second-{name}"), with(&header));
         }
@@ -272,29 +295,6 @@ impl Maker {
         keys[1][header] = 0;
         self.fault(Join, 13, "table-65538-no-marks", keys.concat());
     }
-}
-
-/// Five numbers of which one is broken, the others out of their range.
-fn broken_headers() -> [(u32, &'static str, Vec<u8>); 2] {
-    [
-        (10, "four-groups", vec![7, 0, 0x80, 0x80, 0x80, 0x01, 0, 0]),
-        (10, "not-shortest", vec![7, 0, 0, 0, 0x84, 0x00]),
-    ]
-}
-
-/// p, N, μ and w that 1 to 5 refuse, each with all the faults that come after it.
-fn wrong_boards() -> [(u32, &'static str, [u32; 4]); 9] {
-    [
-        (1, "one-player", [1, 0, 0, 0]),
-        (1, "seven-players", [7, 0, 0, 0]),
-        (2, "no-positions", [2, 0, 0, 0]),
-        (2, "positions-65537", [2, 65_537, 0, 0]),
-        (3, "width-0", [2, 65_536, 0, 0]),
-        (3, "width-257", [2, 65_536, 257, 0]),
-        (4, "value-0", [2, 65_536, 1, 0]),
-        (4, "value-17", [2, 65_536, 1, 17]),
-        (5, "grid-rows-257", [2, 257, 1, 16]),
-    ]
 }
 
 /// The dealing program's input.
