@@ -6,19 +6,13 @@ import { existsSync, readFileSync, readdirSync } from 'node:fs';
 import { test } from 'node:test';
 import { load, loadBase64, Nosingginger, Refused, REFUSALS } from './nosingginger.mjs';
 import { randomDealing } from './draw.mjs';
+import { bytesOfHexadecimal, examine, hexadecimal, joinTables, keysApart, keysOfFile, keysOfText, marked, NotHexadecimal, printedDeal }
+    from './match.mjs';
+import { sameEachTime } from './random.mjs';
 
 const root = new URL('../', import.meta.url);
 const moduleBytes = readFileSync(new URL('target/targets/wasm32/nosingginger.wasm', root));
 const nosingginger = await load(moduleBytes);
-
-// Numbers that look drawn and are the same each time: a linear congruence's upper bytes.
-function sameEachTime(start) {
-    let state = BigInt(start);
-    return (length) => Uint8Array.from({ length }, () => {
-        state = (state * 6364136223846793005n + 1442695040888963407n) & 0xFFFFFFFFFFFFFFFFn;
-        return Number(state >> 56n);
-    });
-}
 
 const FILL = 0xC9;
 const filled = (length) => new Uint8Array(length).fill(FILL);
@@ -36,17 +30,8 @@ function refused(number, call, ...lent) {
     lent.forEach((slice, index) => assert.deepEqual(slice, before[index]));
 }
 
-const printed = () => ({
-    players: 2, positions: 6, width: 4, valueBytes: 1, point: 4,
-    value: Uint8Array.of(0xA5),
-    arrays: Uint8Array.of(0, 3, 1, 2),
-    seeds: Uint8Array.from({ length: 128 }, (_, place) => place),
-    words: Uint8Array.of(0xF0, 0xF1, 0xF2, 0xF3),
-});
 const spring = (players, start = players) =>
     randomDealing({ players, positions: 72, width: nosingginger.chooseWidth({ players, positions: 72 }), valueBytes: 1 }, sameEachTime(start));
-const keysApart = (keys, players) => Array.from({ length: players }, (_, player) =>
-    keys.subarray(player * keys.length / players, (player + 1) * keys.length / players));
 
 test('the module has no imports and all calls', () => {
     const module = new WebAssembly.Module(moduleBytes);
@@ -121,20 +106,20 @@ test('expand: the first key stream block of RFC 8439, A.1, and the limits', () =
 });
 
 test('the printed deal', () => {
-    const keys = nosingginger.deal(printed());
+    const keys = nosingginger.deal(printedDeal());
     assert.equal(keys.length, 158);
     assert.deepEqual([...nosingginger.joinKeys(keys)], [0, 0, 0, 0, 0xA5, 0]);
     const stored = readFileSync(new URL('crates/dealer/stdin', root));
-    const { value, arrays, seeds, words } = printed();
+    const { value, arrays, seeds, words } = printedDeal();
     assert.deepEqual([...stored], [2, 6, 4, 1, 4, ...value, ...arrays, ...seeds, ...words]);
     assert.deepEqual(Buffer.from(keys), readFileSync(new URL('crates/dealer/stdout', root)));
-    assert.deepEqual(keysApart(keys, 2).map((key) => nosingginger.checkKey(key)),
+    assert.deepEqual(keysApart(nosingginger, keys).map((key) => nosingginger.checkKey(key)),
         [0, 1].map((player) => ({ players: 2, player, positions: 6, width: 4, valueBytes: 1 })));
 });
 
 test('deal: refusals, lent output, lent output that is longer', () => {
     const exact = filled(158);
-    const given = printed();
+    const given = printedDeal();
     refused(1, () => nosingginger.deal({ ...given, players: 7, positions: 0 }, exact), exact);
     refused(2, () => nosingginger.deal({ ...given, positions: 0 }, exact), exact);
     refused(3, () => nosingginger.deal({ ...given, width: 257 }, exact), exact);
@@ -158,7 +143,7 @@ test('deal: refusals, lent output, lent output that is longer', () => {
 
 test('check key, open one, open all: refusals and lent output', () => {
     const keys = nosingginger.deal(spring(4));
-    const [key] = keysApart(keys, 4);
+    const [key] = keysApart(nosingginger, keys);
     const changed = (place, byte) => Uint8Array.from(key, (own, index) => (index === place ? byte : own));
     const wrong = [
         [10, new Uint8Array(0)], [10, Uint8Array.of(4, 0, 0xC8, 0)], [10, Uint8Array.of(4, 0, 0xFF, 0xFF, 0xFF, 0)], [1, changed(0, 7)],
@@ -216,7 +201,7 @@ test('join keys: every number of players, refusals and lent output', () => {
         assert.deepEqual(longer.subarray(72), filled(3));
         const short = filled(71);
         refused(9, () => nosingginger.joinKeys(keys, short), short);
-        const apart = keysApart(keys, players);
+        const apart = keysApart(nosingginger, keys);
         const swapped = Uint8Array.from([...apart].reverse().flatMap((key) => [...key]));
         const lent = filled(72);
         refused(15, () => nosingginger.joinKeys(swapped, lent), lent);
@@ -235,7 +220,7 @@ test('held seed is a part of the key itself', () => {
     const dealing = spring(5);
     const keys = nosingginger.deal(dealing);
     const columns = 16;
-    keysApart(keys, 5).forEach((key, player) => {
+    keysApart(nosingginger, keys).forEach((key, player) => {
         for (let gridRow = 0; gridRow < Math.ceil(72 / dealing.width); gridRow += 1) {
             for (let column = 0; column < columns; column += 1) {
                 const place = gridRow * columns + column;
@@ -263,7 +248,7 @@ test('numbers that 32 bits cannot hold and things that are no bytes are the call
 });
 
 test('lent bytes may be part of a longer array, and may be the output too', () => {
-    const keys = nosingginger.deal(printed());
+    const keys = nosingginger.deal(printedDeal());
     const longer = Uint8Array.from([9, 9, 9, ...keys, 9]);
     assert.deepEqual(nosingginger.joinKeys(longer.subarray(3, 161)), nosingginger.joinKeys(keys));
     const seed = filled(32);
@@ -290,7 +275,7 @@ test('the largest table, and the memory grows to it and holds nothing afterwards
     assert.deepEqual(found, dealing.value);
     table.fill(0, dealing.point * 16, dealing.point * 16 + 16);
     assert.ok(table.every((byte) => byte === 0));
-    const [key] = keysApart(keys, 6);
+    const [key] = keysApart(nosingginger, keys);
     assert.deepEqual(own.openOne(key, 65535), own.openAll(key).subarray(1048560));
     assert.ok(new Uint8Array(memory.buffer, start).every((byte) => byte === 0));
     const grown = memory.buffer.byteLength;
