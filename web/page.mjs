@@ -12,7 +12,7 @@ const NUMBERS = ['no', 'one', 'two', 'three', 'four', 'five', 'six'];
 const library = await loadBase64(element('module').textContent);
 
 // What is here: the keys in their order, and what is looked at.
-const state = { keys: [], found: null, chosen: null, player: null, coalition: new Set(), first: 0, named: 0 };
+const state = { keys: [], found: null, chosen: null, player: null, coalition: new Set(), together: null, first: 0, named: 0 };
 
 function element(id) {
     return document.getElementById(id);
@@ -198,7 +198,8 @@ function showTable(id, table, board, label, pieces = []) {
         }
         lines.push(line);
     }
-    const grid = make('table', { className: `squares${board.valueBytes > 2 ? ' wide' : ''}`, onkeydown: moveInGrid, onclick: chooseInGrid,
+    const grid = make('table', { className: `squares${board.valueBytes > 2 ? ' wide' : ''}${board.valueBytes === 3 || board.valueBytes === 4 ? ' tall' : ''}`,
+        onkeydown: moveInGrid, onclick: chooseInGrid,
         aria: { role: 'grid', 'aria-label': label, 'aria-describedby': 'grid-help' } }, make('tbody', { aria: { role: 'rowgroup' } }, ...lines));
     const entered = grid.querySelector(`[data-position="${focused ?? state.chosen}"]`) ?? grid.querySelector('td');
     entered.tabIndex = 0;
@@ -252,6 +253,8 @@ function chooseSquare(position) {
 
 function show() {
     say('status', standing());
+    const { checked, refusal } = state.found;
+    element('status').classList.toggle('bad', refusal !== null || checked.some((answer) => answer.refusal !== null));
     element('keys').replaceChildren(...state.keys.map(keyItem));
     element('clear').hidden = state.keys.length === 0;
     element('order').hidden = state.found.about === null || inOrder().every((key, place) => key === state.keys[place]);
@@ -317,8 +320,14 @@ function showCoalition(board, holders) {
         : `${capital(NUMBERS[members.length])} of ${NUMBERS[board.players]} players: ${names}. ${left === 0
             ? 'With everybody, it is the joined board.' : `${capital(NUMBERS[left])} ${left === 1 ? 'is' : 'are'} left out.`}`);
     if (members.length === 0) return;
-    const table = joinTables(library, members.map(({ key }) => tableOf(key)));
-    showTable('coalition', table, board, `The joined table of players ${names}`, left === 0 ? state.found.pieces : []);
+    showTable('coalition', tableOfMembers(members), board, `The joined table of players ${names}`, left === 0 ? state.found.pieces : []);
+}
+
+/** The members' tables joined, worked out once for these keys. */
+function tableOfMembers(members) {
+    const keys = members.map(({ key }) => key.name).join();
+    if (state.together?.keys !== keys) state.together = { keys, table: joinTables(library, members.map(({ key }) => tableOf(key))) };
+    return state.together.table;
 }
 
 function changeCoalition(player, isMember) {
