@@ -4,13 +4,13 @@
 #include "nosingginger.h"
 #include "platform.h"
 
-/* The bytes that a call's lent slices may take together are ROOM, where BOARD_ROOM is what a small board has. There the larger calls are left
-   out; all others are the same on every target. */
-#ifndef ROOM
-#define ROOM (2u << 20)
+/* ROOM, which the compiler is given, is how many bytes a call's lent slices may take together; BOARD_ROOM is what the small board has. There
+   the larger calls are left out; all others are the same on every target. */
+#if ROOM < BOARD_ROOM
+#error "every target has at least the small board's room"
 #endif
 
-enum { ROUNDS = 250, LARGE_ROUNDS = 30, LARGE_ROOM = 1 << 19 };
+enum { ROUNDS = 1000, LARGE_ROUNDS = 60, LARGE_ROOM = 1 << 19 };
 enum { GUARD = 16, GUARD_BYTE = 0x5A, CHUNK = 256 };
 
 static uint8_t room[ROOM + GUARD];
@@ -254,8 +254,8 @@ static void run_cases(void)
 
 /* ---- random calls */
 
-enum { PLAYERS = 6, POSITIONS = 65536, WIDTH = 256, VALUE_BYTES = 16, SEED = 32, ROWS = 256, SENSORS = 72, ROW_BYTES = 4096 };
-enum { CALLS_IN_A_LINE = 1000 };
+enum { PLAYERS = NSG_MOST_PLAYERS, POSITIONS = NSG_MOST_POSITIONS, WIDTH = NSG_MOST_WIDTH, VALUE_BYTES = NSG_MOST_VALUE_BYTES };
+enum { SEED = NSG_SEED_BYTES, ROW_BYTES = NSG_MOST_EXPANDED_BYTES, CALLS_IN_A_LINE = 5000 };
 
 static uint64_t state;
 static uint32_t calls;
@@ -302,14 +302,14 @@ static uint32_t place(struct dealing *d, uint32_t limit)
 {
     if (nsg_key_length(d->players, d->positions, d->width, d->value_bytes, &d->key_bytes) != 0)
         return 0;
-    d->columns = 1u << (d->players - 1);
-    d->grid_rows = (d->positions + d->width - 1) / d->width;
+    d->columns = NSG_COLUMNS(d->players);
+    d->grid_rows = NSG_GRID_ROWS(d->positions, d->width);
     d->arrays = d->value_bytes;
-    d->arrays_bytes = d->grid_rows * d->columns;
+    d->arrays_bytes = NSG_ARRAYS_BYTES(d->players, d->positions, d->width);
     d->seeds = d->arrays + d->arrays_bytes;
-    d->seeds_bytes = d->arrays_bytes * SEED;
+    d->seeds_bytes = NSG_SEEDS_BYTES(d->players, d->positions, d->width);
     d->words = d->seeds + d->seeds_bytes;
-    d->words_bytes = (d->columns - 1) * d->width * d->value_bytes;
+    d->words_bytes = NSG_WORDS_BYTES(d->players, d->width, d->value_bytes);
     d->keys = d->words + d->words_bytes;
     d->keys_bytes = d->players * d->key_bytes;
     d->rest = d->keys + d->keys_bytes;
@@ -376,8 +376,9 @@ static uint32_t keys_join(const struct dealing *d, uint32_t limit)
     fill(table, table_bytes, 0x66);
     good = called(nsg_join_keys(room + d->keys, d->keys_bytes, table, table_bytes)) == 0;
     record_bytes(table, table_bytes);
-    for (uint32_t i = 0; i < table_bytes; i++)
-        good &= table[i] == (i / w == d->point ? room[i % w] : 0);
+    for (uint32_t position = 0; position < d->positions; position++)
+        for (uint32_t i = 0; i < w; i++)
+            good &= table[position * w + i] == (position == d->point ? room[i] : 0);
     return good;
 }
 
@@ -470,7 +471,7 @@ static void random_small_calls(void)
     record_number(number);
     called(nsg_choose_width(below(8), below(2) == 0 ? below(POSITIONS + 2) : below(300), &number));
     record_number(number);
-    called(nsg_sensor_position(below(SENSORS + 8), &number));
+    called(nsg_sensor_position(below(NSG_SENSORS + 8), &number));
     record_number(number);
     draw(room, 120);
     fill(room + 120, 20, 0xBB);
@@ -506,7 +507,7 @@ static struct dealing largest(uint32_t players, uint32_t value_bytes, uint32_t l
     d.players = players;
     d.value_bytes = value_bytes;
     for (d.width = 1; d.width <= WIDTH; d.width++)
-        for (uint32_t rows = 1; rows <= ROWS; rows++) {
+        for (uint32_t rows = 1; rows <= NSG_MOST_GRID_ROWS; rows++) {
             d.positions = rows * d.width;
             if (!place(&d, limit))
                 break;
@@ -546,7 +547,7 @@ static void deal_largest(uint32_t players, uint32_t value_bytes, uint32_t limit)
 }
 
 /* The largest table there is, which two players join. */
-static void open_largest_table(void)
+static void join_largest_table(void)
 {
     struct dealing d = {.players = 2, .positions = POSITIONS, .width = WIDTH, .value_bytes = VALUE_BYTES, .point = POSITIONS - 2};
     wrong += !place(&d, ROOM);
@@ -570,8 +571,29 @@ int test(void)
     }
     if (ROOM > LARGE_ROOM) {
         run_random(LARGE_ROUNDS, LARGE_ROOM);
-        open_largest_table();
+        join_largest_table();
     }
     text(wrong == 0 ? "right\n" : "WRONG\n");
     return wrong != 0;
+}
+
+/* ---- for measuring: a dealing that stays, and its first player's table opened */
+
+static struct dealing timed;
+
+void deal_timed(uint32_t players, uint32_t positions, uint32_t width, uint32_t value_bytes)
+{
+    timed.players = players;
+    timed.positions = positions;
+    timed.width = width;
+    timed.value_bytes = value_bytes;
+    timed.point = 0;
+    place(&timed, ROOM);
+    draw_dealing(&timed);
+    deal(&timed, timed.arrays_bytes, timed.keys_bytes);
+}
+
+uint32_t open_timed(void)
+{
+    return nsg_open_all(room + timed.keys, timed.key_bytes, room + timed.rest, timed.positions * timed.value_bytes);
 }

@@ -1,5 +1,6 @@
 // The test of the wasm32 module in node: the module as it is delivered, and calls.c as a second module that calls its functions and stands
 // in its memory, above what it uses itself. Usage: node wasm.mjs nosingginger.wasm calls.wasm cases.bin
+// Without cases.bin it prints the best time of open all on the two boards of speed.c, in nanoseconds.
 import { readFileSync } from "node:fs";
 
 const [library, calls, data] = process.argv.slice(2).map((file) => readFileSync(file));
@@ -29,7 +30,22 @@ const begin = 1 << 20;
 if (exports.__heap_base.value > begin) throw new Error("the module's own memory reaches above 1 MiB");
 memory.grow((8 << 20) / PAGE - memory.buffer.byteLength / PAGE);
 
-const instance = new WebAssembly.Instance(new WebAssembly.Module(calls), { env: environment });
-const status = instance.exports.test();
-process.stdout.write(Buffer.concat(written));
-process.exitCode = status;
+const test = new WebAssembly.Instance(new WebAssembly.Module(calls), { env: environment }).exports;
+
+function best(positions, width, times) {
+  let least = Infinity;
+  test.deal_timed(6, positions, width, 1);
+  for (let i = 0; i < times; i++) {
+    const began = process.hrtime.bigint();
+    if (test.open_timed() !== 0) throw new Error("the table is refused");
+    least = Math.min(least, Number(process.hrtime.bigint() - began));
+  }
+  return least;
+}
+
+if (data) {
+  process.exitCode = test.test();
+  process.stdout.write(Buffer.concat(written));
+} else {
+  console.log(best(72, 48, 2000), best(16384, 256, 200));
+}
