@@ -16,15 +16,15 @@ export function answerOf(call) {
     }
 }
 
-/** Text that is not bytes in hexadecimal. Its message is for a person. */
-export class NotHexadecimal extends Error {}
+/** What cannot be read as bytes of keys. Its message is for a person. */
+export class Unreadable extends Error {}
 
 /** Bytes from hexadecimal digits, with spaces, line breaks, commas, semicolons, colons and 0x between them as anybody writes them. */
 export function bytesOfHexadecimal(text) {
     const digits = text.replace(/\b0x/gi, ' ').replace(/[\s,;:]/g, '');
     const other = /[^0-9a-f]/i.exec(digits);
-    if (other) throw new NotHexadecimal(`\u201C${other[0]}\u201D is not a hexadecimal digit.`);
-    if (digits.length % 2 !== 0) throw new NotHexadecimal(`${digits.length} hexadecimal digits: a byte has two.`);
+    if (other) throw new Unreadable(`\u201C${other[0]}\u201D is not a hexadecimal digit.`);
+    if (digits.length % 2 !== 0) throw new Unreadable(`${digits.length} hexadecimal digits: a byte has two.`);
     return Uint8Array.from({ length: digits.length / 2 }, (_, place) => parseInt(digits.slice(2 * place, 2 * place + 2), 16));
 }
 
@@ -70,7 +70,7 @@ function answerOfText(read) {
     try {
         return read();
     } catch (error) {
-        if (!(error instanceof NotHexadecimal)) throw error;
+        if (!(error instanceof Unreadable)) throw error;
         return null;
     }
 }

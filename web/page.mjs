@@ -1,15 +1,20 @@
 // The page that reopens a match: it reads keys, asks the library, and shows what it answers. Assumes page.html's elements.
 import { loadBase64 } from './nosingginger.mjs';
 import { randomDealing } from './draw.mjs';
-import { NotHexadecimal, answerOf, examine, hexadecimal, joinTables, keysApart, keysOfFile, keysOfText, marked, printedDeal, sameBoard, together }
+import { answerOf, examine, hexadecimal, joinTables, keysApart, keysOfFile, keysOfText, marked, printedDeal, sameBoard, together, Unreadable }
     from './match.mjs';
 
 const SQUARES_IN_A_LINE = 8;
 const SQUARES_SHOWN = 256;
 const SENSORS = 72;
+// All keys of the largest board have 1,579,056 bytes; written as text, they are some times longer.
+const MOST_FILE_BYTES = 16 * 1024 * 1024;
 const NUMBERS = ['no', 'one', 'two', 'three', 'four', 'five', 'six'];
 
-const library = await loadBase64(element('module').textContent);
+const library = await loadBase64(element('module').textContent).catch((error) => {
+    say('status', `The library cannot be opened in this browser: ${error.message}.`);
+    throw error;
+});
 
 // What is here: the keys in their order, and what is looked at.
 const state = { keys: [], found: null, chosen: null, player: null, coalition: new Set(), together: null, first: 0, named: 0 };
@@ -178,7 +183,7 @@ function squareCell(table, board, position, pieces) {
         aria: { role: 'gridcell', 'data-position': position, 'aria-selected': String(position === state.chosen),
             'aria-label': `Square ${position}${sensorWords(board, position)}, value ${digits}${isPiece ? ', the piece' : ''}` },
     }, make('span', { className: 'at' }, String(position)),
-    make('span', { className: 'value' }, digits.length > 8 ? `${digits.slice(0, 4)}\u2026` : digits.match(/.{1,4}/g).join('\n')),
+    make('span', { className: 'value' }, digits.length > 8 ? `${digits.slice(0, 4)}\n\u2026` : digits.match(/.{1,4}/g).join('\n')),
     ...(sensor === undefined ? [] : [make('span', { className: 'sensor' }, String(sensor))]));
     cell.style.setProperty('--level', String(value[0] / 255));
     return cell;
@@ -363,18 +368,18 @@ function showShares() {
 
 /** Reads keys from somewhere; words for a person where they cannot be read. */
 async function read(work) {
-    say('paste-problem', '');
+    say('read-problem', '');
     try {
         await work();
     } catch (error) {
-        if (!(error instanceof NotHexadecimal)) throw error;
-        say('paste-problem', error.message);
+        if (!(error instanceof Unreadable)) throw error;
+        say('read-problem', error.message);
     }
 }
 
 function addText(text) {
     const parts = keysOfText(library, text);
-    if (parts.length === 0) throw new NotHexadecimal('There is nothing to read yet.');
+    if (parts.length === 0) throw new Unreadable('There is nothing to read yet.');
     addKeys(parts, 'pasted');
     element('paste').value = '';
 }
@@ -382,6 +387,7 @@ function addText(text) {
 async function addFiles(files) {
     const byName = [...files].sort((one, other) => one.name.localeCompare(other.name, 'en', { numeric: true }));
     for (const file of byName) {
+        if (file.size > MOST_FILE_BYTES) throw new Unreadable(`${file.name} is too long: no board has so many bytes of keys.`);
         addKeys(keysOfFile(library, new Uint8Array(await file.arrayBuffer())), file.name);
     }
 }

@@ -228,18 +228,20 @@ onPage('hexadecimal: pasted, typed, wrapped, wrong; files of text; all keys in o
     }
     await page.type('#paste', '02 00 0G');
     await page.click('#paste-form button');
-    assert.equal(await page.text('#paste-problem'), '\u201CG\u201D is not a hexadecimal digit.');
+    assert.equal(await page.text('#read-problem'), '\u201CG\u201D is not a hexadecimal digit.');
     assert.equal(await page.text('#status'), 'No keys are here yet.');
     await page.run(() => { document.getElementById('paste').value = '020'; });
     await page.click('#paste-form button');
-    assert.equal(await page.text('#paste-problem'), '3 hexadecimal digits: a byte has two.');
+    assert.equal(await page.text('#read-problem'), '3 hexadecimal digits: a byte has two.');
     await page.run(() => { document.getElementById('paste').value = ' '; });
     await page.click('#paste-form button');
-    assert.equal(await page.text('#paste-problem'), 'There is nothing to read yet.');
+    assert.equal(await page.text('#read-problem'), 'There is nothing to read yet.');
     for (const file of [stored('all.keys', all), stored('all.txt', byLine)]) {
         await page.giveFiles('#files', [file]);
         await isGood();
     }
+    await page.giveFiles('#files', [stored('photo.jpg', new Uint8Array(17 * 1024 * 1024))]);
+    await page.until(() => document.getElementById('read-problem').textContent === 'photo.jpg is too long: no board has so many bytes of keys.');
     await page.run((given) => {
         const dropped = new DataTransfer();
         given.forEach((bytes, index) => dropped.items.add(new File([Uint8Array.from(bytes)], `${index}.key`)));
@@ -426,6 +428,13 @@ for (const scheme of ['light', 'dark']) {
         }, { ...size, scheme });
     }
 }
+
+test('a library that cannot be opened is said', async () => {
+    const broken = readFileSync(place, 'utf8').replace(/(id="module">\s*)AGFzbQ/, '$1AGFzbg');
+    const page = await browser.open(`file://${stored('broken.html', broken)}`);
+    await page.until(() => document.getElementById('status').textContent.startsWith('The library cannot be opened in this browser: '));
+    await page.close();
+});
 
 test('the page can send nothing: its own policy forbids it', async () => {
     const page = await browser.open(place);

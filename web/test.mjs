@@ -6,7 +6,7 @@ import { existsSync, readFileSync, readdirSync } from 'node:fs';
 import { test } from 'node:test';
 import { load, loadBase64, Nosingginger, Refused, REFUSALS } from './nosingginger.mjs';
 import { randomDealing } from './draw.mjs';
-import { bytesOfHexadecimal, examine, hexadecimal, joinTables, keysApart, keysOfFile, keysOfText, marked, NotHexadecimal, printedDeal }
+import { bytesOfHexadecimal, examine, hexadecimal, joinTables, keysApart, keysOfFile, keysOfText, marked, printedDeal, Unreadable }
     from './match.mjs';
 import { sameEachTime } from './random.mjs';
 
@@ -351,7 +351,7 @@ test('hexadecimal text is read as anybody writes it', () => {
         assert.deepEqual(bytesOfHexadecimal(text), bytes);
     }
     assert.equal(hexadecimal(bytes), '0200A5FF');
-    for (const text of ['0200A5F', 'xyz', '02-00', 'A5h', '\u0661\u0662']) assert.throws(() => bytesOfHexadecimal(text), NotHexadecimal);
+    for (const text of ['0200A5F', 'xyz', '02-00', 'A5h', '\u0661\u0662']) assert.throws(() => bytesOfHexadecimal(text), Unreadable);
 });
 
 test('keys are found in text and in files', () => {
