@@ -120,7 +120,8 @@ uint32_t nsg_deal(uint32_t players, uint32_t positions, uint32_t width, uint32_t
    Writes header[0] players, header[1] player, header[2] positions, header[3] width, header[4] value bytes. */
 uint32_t nsg_check_key(const uint8_t *key, uint64_t key_length, uint32_t header[5]);
 
-/* OPEN ONE: a player's share of one position, the value_bytes bytes that nsg_open_all writes for it. It reads only the position's grid row.
+/* OPEN ONE: a player's share of one position, the value_bytes bytes that nsg_open_all writes for it. It expands
+   the seeds of the position's grid row alone.
    Refusals, in this order: those of nsg_check_key; 14 position; 9 output under value_bytes. Writes value_bytes bytes. */
 uint32_t nsg_open_one(const uint8_t *key, uint64_t key_length, uint32_t position, uint8_t *out, uint64_t out_length);
 

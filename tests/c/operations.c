@@ -73,6 +73,18 @@ static void test_expand(void)
     give_back(&most);
 }
 
+/* Key lengths by document 01's formula, for every width of a board. */
+static void test_key_lengths(uint32_t players, uint32_t positions)
+{
+    const uint32_t columns = NSG_COLUMNS(players), value_bytes = 1 + positions % NSG_MOST_VALUE_BYTES;
+    for (uint32_t width = 1; width <= NSG_MOST_WIDTH; width++) {
+        uint32_t header = 5 + (positions >= 128) + (positions >= 16384) + (width >= 128), rows = NSG_GRID_ROWS(positions, width);
+        uint32_t number = 0, answer = nsg_key_length(players, positions, width, value_bytes, &number);
+        CHECK(answer == (rows > NSG_MOST_GRID_ROWS ? NSG_REFUSED_GRID_ROWS : NSG_ACCEPTED));
+        CHECK(number == (answer == NSG_ACCEPTED ? header + rows * ((columns + 7) / 8 + 16 * columns) + columns * width * value_bytes : 0));
+    }
+}
+
 /* Document 01's lines on widths, lengths and sensors, and what must hold of all of them. */
 static void test_numbers(void)
 {
@@ -88,6 +100,9 @@ static void test_numbers(void)
             CHECK(nsg_choose_width(players, positions, &number) == NSG_ACCEPTED && number == least);
         }
     CHECK(nsg_key_length(4, 72, 24, 1, &number) == NSG_ACCEPTED && number == 584);
+    for (uint32_t players = NSG_LEAST_PLAYERS; players <= NSG_MOST_PLAYERS; players++)
+        for (uint32_t positions = 1; positions <= NSG_MOST_POSITIONS; positions = positions < 300 ? positions + 1 : positions * 5 / 4)
+            test_key_lengths(players, positions);
     CHECK(nsg_key_length(6, 65536, 256, 16, &number) == NSG_ACCEPTED && number == NSG_MOST_KEY_BYTES);
     CHECK(NSG_MOST_KEYS_BYTES == NSG_MOST_PLAYERS * NSG_MOST_KEY_BYTES);
     CHECK(NSG_MOST_TABLE_BYTES == NSG_TABLE_BYTES(NSG_MOST_POSITIONS, NSG_MOST_VALUE_BYTES));
