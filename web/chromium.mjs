@@ -11,8 +11,9 @@ export function openBrowser() {
     const program = NAMES.find((name) => spawnSync(name, ['--version']).status === 0);
     if (program === undefined) throw new Error(`no Chromium here: none of ${NAMES.join(', ')} starts`);
     const folder = mkdtempSync(path.join(tmpdir(), 'nosingginger-page-'));
-    const child = spawn(program, ['--headless', '--no-sandbox', '--disable-gpu', '--hide-scrollbars', '--no-first-run', '--disable-background-networking',
-        '--force-color-profile=srgb', '--remote-debugging-pipe', `--user-data-dir=${folder}`], { stdio: ['ignore', 'ignore', 'ignore', 'pipe', 'pipe'] });
+    const child = spawn(program, ['--headless', '--no-sandbox', '--disable-gpu', '--hide-scrollbars', '--no-first-run',
+        '--disable-background-networking', '--force-color-profile=srgb', '--remote-debugging-pipe', `--user-data-dir=${folder}`],
+    { stdio: ['ignore', 'ignore', 'ignore', 'pipe', 'pipe'] });
     return new Browser(child, folder);
 }
 
@@ -83,6 +84,10 @@ class Browser {
     }
 }
 
+function wordsOf({ exception, text }) {
+    return exception?.description ?? text;
+}
+
 class Page {
     #browser;
     #session;
@@ -102,7 +107,7 @@ class Page {
         browser.listen(({ method, params, sessionId }) => {
             if (sessionId !== session) return;
             if (method === 'Page.loadEventFired') this.#loaded.splice(0).forEach((resolve) => resolve());
-            if (method === 'Runtime.exceptionThrown') this.complaints.push(params.exceptionDetails.exception?.description ?? params.exceptionDetails.text);
+            if (method === 'Runtime.exceptionThrown') this.complaints.push(wordsOf(params.exceptionDetails));
             if (method === 'Log.entryAdded' && params.entry.level === 'error') this.complaints.push(params.entry.text);
             if (method === 'Network.requestWillBeSent') this.requests.push(params.request.url);
         });
@@ -122,7 +127,7 @@ class Page {
     async run(work, ...given) {
         const expression = `(${work})(...${JSON.stringify(given)})`;
         const { result, exceptionDetails } = await this.send('Runtime.evaluate', { expression, awaitPromise: true, returnByValue: true });
-        if (exceptionDetails) throw new Error(exceptionDetails.exception?.description ?? exceptionDetails.text);
+        if (exceptionDetails) throw new Error(wordsOf(exceptionDetails));
         return result.value;
     }
 
@@ -147,12 +152,15 @@ class Page {
             const { left, top, width, height } = found.getBoundingClientRect();
             return [left + width / 2, top + height / 2];
         }, selector);
-        for (const type of ['mousePressed', 'mouseReleased']) await this.send('Input.dispatchMouseEvent', { type, x, y, button: 'left', clickCount: 1 });
+        for (const type of ['mousePressed', 'mouseReleased']) {
+            await this.send('Input.dispatchMouseEvent', { type, x, y, button: 'left', clickCount: 1 });
+        }
     }
 
     /** Presses a key, as 'Tab' or 'ArrowDown'; editing commands as 'paste' go with it. */
     async press(key, { shift = false, commands = [] } = {}) {
-        const codes = { Tab: 9, Enter: 13, ' ': 32, ArrowLeft: 37, ArrowUp: 38, ArrowRight: 39, ArrowDown: 40, Home: 36, End: 35, PageUp: 33, PageDown: 34 };
+        const codes = { Tab: 9, Enter: 13, ' ': 32, PageUp: 33, PageDown: 34, End: 35, Home: 36, ArrowLeft: 37, ArrowUp: 38, ArrowRight: 39,
+            ArrowDown: 40 };
         const text = { Enter: '\r', ' ': ' ' }[key];
         const common = { key, code: key === ' ' ? 'Space' : key, windowsVirtualKeyCode: codes[key] ?? 0, modifiers: shift ? 8 : 0, commands };
         await this.send('Input.dispatchKeyEvent', { type: text === undefined ? 'rawKeyDown' : 'keyDown', text, ...common });

@@ -27,8 +27,8 @@ export const REFUSALS = Object.freeze([
     [12, 'REFUSED_LENGTH', 'a key, or all keys together, do not have the length that the header asks for'],
     [13, 'REFUSED_MARKS', 'a key marks another number of columns than half in some grid row, or has a spare bit set'],
     [14, 'REFUSED_POSITION', 'the position is none of the board\u2019s'],
-    [15, 'REFUSED_PLACE', 'a key\u2019s board is not the first key\u2019s, or its player is not its place'],
-    [16, 'REFUSED_EXPANSION', 'more bytes are asked of a seed than the longest row has, 4,096'],
+    [15, 'REFUSED_PLACE', 'a key is of another board than the first, or not of the player whose place it stands in'],
+    [16, 'REFUSED_EXPANSION', 'more than 4,096 bytes are asked of a seed'],
     [17, 'REFUSED_SENSOR', 'the sensor is none of the spring board\u2019s 72'],
 ].map(([number, name, words]) => Object.freeze({ number, name, words })));
 

@@ -103,7 +103,8 @@ function standing() {
         return `The key at place ${first.place} is refused with ${first.refusal.number}: ${first.refusal.words}.${others}`;
     }
     if (missing.length > 0) {
-        return `${counted(checked.length, 'key')} of ${board.players}, all accepted. Missing: ${missing.length === 1 ? 'player' : 'players'} ${listed(missing)}.`;
+        const who = missing.length === 1 ? 'player' : 'players';
+        return `${counted(checked.length, 'key')} of ${board.players}, all accepted. Missing: ${who} ${listed(missing)}.`;
     }
     if (refusal !== null) {
         const whose = about === null ? ` There are ${counted(checked.length, 'key')} here for ${board.players} players.`
@@ -203,8 +204,7 @@ function showTable(id, table, board, label, pieces = []) {
         }
         lines.push(line);
     }
-    const grid = make('table', { className: `squares${board.valueBytes > 2 ? ' wide' : ''}${board.valueBytes === 3 || board.valueBytes === 4 ? ' tall' : ''}`,
-        onkeydown: moveInGrid, onclick: chooseInGrid,
+    const grid = make('table', { className: board.valueBytes > 2 ? 'squares wide' : 'squares', onkeydown: moveInGrid, onclick: chooseInGrid,
         aria: { role: 'grid', 'aria-label': label, 'aria-describedby': 'grid-help' } }, make('tbody', { aria: { role: 'rowgroup' } }, ...lines));
     const entered = grid.querySelector(`[data-position="${focused ?? state.chosen}"]`) ?? grid.querySelector('td');
     entered.tabIndex = 0;
@@ -280,15 +280,18 @@ function showBoards() {
     element('pages').hidden = board === null || board.positions <= SQUARES_SHOWN;
     if (board === null) return;
     const last = Math.min(board.positions, state.first + SQUARES_SHOWN) - 1;
-    say('range', `Squares ${[state.first, last].map((position) => position.toLocaleString('en')).join(' to ')} of ${board.positions.toLocaleString('en')}`);
+    const [from, to, all] = [state.first, last, board.positions].map((number) => number.toLocaleString('en'));
+    say('range', `Squares ${from} to ${to} of ${all}`);
     element('earlier').disabled = state.first === 0;
     element('later').disabled = last + 1 === board.positions;
     element('to-piece').hidden = pieces.length !== 1;
     element('joined').hidden = joined === null;
-    say('joined-words', joined === null ? whyNotJoined() : `${board.players === 2 ? 'Both' : `All ${NUMBERS[board.players]}`} players\u2019 tables, laid together.`);
+    const everybody = board.players === 2 ? 'Both' : `All ${NUMBERS[board.players]}`;
+    say('joined-words', joined === null ? whyNotJoined() : `${everybody} players\u2019 tables, laid together.`);
     if (joined !== null) showTable('joined', joined, board, 'The joined board', pieces);
     say('legend', `In each square: its position, its value in hexadecimal${board.valueBytes > 4 ? ' (the first two bytes)' : ''}${
-        board.positions === SENSORS ? ', and below it the number of the sensor that lies there' : ''}. The stronger its shade, the greater its first byte.`);
+        board.positions === SENSORS ? ', and below it the number of the sensor that lies there' : ''}. ${
+        'The stronger its shade, the greater its first byte.'}`);
     const holders = holdersOf(board);
     element('player').replaceChildren(...holders.map(({ player }) =>
         make('option', { value: String(player), selected: player === state.player }, `Player ${player}`)));
@@ -317,7 +320,8 @@ function showCoalition(board, holders) {
         make('input', { type: 'checkbox', checked: state.coalition.has(player), onchange: (event) => changeCoalition(player, event.target.checked),
             aria: { 'data-member': player } }), ` Player ${player}`)));
     if (focused !== undefined) element('members').querySelector(`[data-member="${focused}"]`)?.focus();
-    say('all-but-one', board.players === 2 ? 'one of two players learns' : `${NUMBERS[board.players - 1]} of ${NUMBERS[board.players]} players learn`);
+    const allButOne = `${NUMBERS[board.players - 1]} of ${NUMBERS[board.players]} players`;
+    say('all-but-one', `${allButOne} ${board.players === 2 ? 'learns' : 'learn'}`);
     element('coalition').hidden = members.length === 0;
     const names = listed(members.map(({ player }) => player));
     const left = board.players - members.length;

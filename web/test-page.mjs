@@ -55,8 +55,10 @@ const keysShown = (page) => page.run(() => [...document.querySelectorAll('#keys 
 const isShown = (page, selector) => page.run((name) => document.querySelector(name).checkVisibility(), selector);
 const labels = (page, id) => page.run((name) => [...document.querySelectorAll(`#${name} td`)].map((cell) => cell.getAttribute('aria-label')), id);
 const lines = (page, id) => page.run((name) => [...document.querySelectorAll(`#${name} tr`)].map((line) => line.querySelectorAll('td').length), id);
-const piecesShown = (page, id) => page.run((name) => [...document.querySelectorAll(`#${name} td.piece`)].map((cell) => Number(cell.dataset.position)), id);
-const sharesShown = (page) => page.run(() => [...document.querySelectorAll('#shares tbody tr, #shares tfoot tr')].map((row) => row.innerText.split(/\s*\t\s*/)));
+const piecesShown = (page, id) => page.run((name) =>
+    [...document.querySelectorAll(`#${name} td.piece`)].map((cell) => Number(cell.dataset.position)), id);
+const sharesShown = (page) => page.run(() =>
+    [...document.querySelectorAll('#shares tbody tr, #shares tfoot tr')].map((row) => row.innerText.split(/\s*\t\s*/)));
 const sensors = new Map(Array.from({ length: 72 }, (_, sensor) => [library.sensorPosition(sensor), sensor]));
 
 /** What the squares of a table must say. */
@@ -219,7 +221,8 @@ onPage('hexadecimal: pasted, typed, wrapped, wrong; files of text; all keys in o
     await page.press('v', { commands: ['paste'] });
     await isGood();
     assert.equal(await page.run(() => document.getElementById('paste').value), '');
-    const ways = [byLine.toLowerCase(), hexadecimal(all).replace(/.{60}/g, '$&\n'), keys.map((key) => hexadecimal(key).replace(/.{32}/g, '$&\n')).join('\n\n'),
+    const ways = [byLine.toLowerCase(), hexadecimal(all).replace(/.{60}/g, '$&\n'),
+        keys.map((key) => hexadecimal(key).replace(/.{32}/g, '$&\n')).join('\n\n'),
         Array.from(all, (byte) => `0x${byte.toString(16).padStart(2, '0')}`).join(', '), `\r\n${keys.map(hexadecimal).join('\r\n')}\r\n`];
     for (const text of ways) {
         await page.type('#paste', text);
@@ -255,7 +258,8 @@ onPage('a drawn spring board has one piece', async (page) => {
     const seen = new Set();
     for (let times = 0; times < 5; times += 1) {
         await page.click('#spring');
-        assert.match(await page.text('#status'), /^6 keys, all accepted and joined. The piece lies on square \d+, sensor \d+. Its value is [0-9A-F]{2}.$/);
+        assert.match(await page.text('#status'),
+            /^6 keys, all accepted and joined\. The piece lies on square \d+, sensor \d+\. Its value is [0-9A-F]{2}\.$/);
         assert.equal((await piecesShown(page, 'joined')).length, 1);
         seen.add(await page.text('#status'));
     }
@@ -268,7 +272,8 @@ onPage('the largest board is shown in parts', async (page) => {
     const keys = library.deal(dealing);
     await page.giveFiles('#files', [stored('large.keys', keys)]);
     await page.until(() => document.querySelectorAll('#keys li').length === 2);
-    assert.equal(await page.text('#status'), `2 keys, all accepted and joined. The piece lies on square ${dealing.point}. Its value is ${hexadecimal(dealing.value)}.`);
+    assert.equal(await page.text('#status'),
+        `2 keys, all accepted and joined. The piece lies on square ${dealing.point}. Its value is ${hexadecimal(dealing.value)}.`);
     const first = dealing.point - dealing.point % 256;
     assert.equal(await page.text('#range'), `Squares ${first.toLocaleString('en')} to ${(first + 255).toLocaleString('en')} of 65,536`);
     assert.deepEqual(await piecesShown(page, 'joined'), [dealing.point]);
@@ -297,7 +302,10 @@ onPage('values of two to five bytes', async (page) => {
 }, PHONE);
 
 onPage('by keyboard alone', async (page) => {
-    const focused = () => page.run(() => document.activeElement.id || document.activeElement.getAttribute('aria-label') || document.activeElement.textContent);
+    const focused = () => page.run(() => {
+        const found = document.activeElement;
+        return found.id || found.getAttribute('aria-label') || (found.closest('label') ?? found).textContent.trim();
+    });
     const order = [];
     for (let times = 0; times < 6; times += 1) {
         await page.press('Tab');
@@ -314,8 +322,8 @@ onPage('by keyboard alone', async (page) => {
         rest.push(await focused());
     }
     assert.deepEqual(rest, ['spring', 'Down one place: the key at place 0', 'Remove: the key at place 0', 'Up one place: the key at place 1',
-        'Remove: the key at place 1', 'clear', 'Square 4, value A5, the piece', 'player', 'Square 4, value 68', 'square', 'Player 0', 'Player 1', 'Square 4, value 68'].map(
-        (name) => name.replace(/^Player \d$/, '')));
+        'Remove: the key at place 1', 'clear', 'Square 4, value A5, the piece', 'player', 'Square 4, value 68', 'square', 'Player 0', 'Player 1',
+        'Square 4, value 68']);
     // In a board: arrows move, Enter chooses, and the board is one stop.
     for (let times = 0; times < 4; times += 1) await page.press('Tab', { shift: true });
     assert.equal(await focused(), 'Square 4, value 68');
@@ -347,7 +355,8 @@ onPage('for a screen reader', async (page) => {
     await page.click('#spring');
     const nodes = await page.accessible();
     const controls = nodes.filter(({ role }) =>
-        ['button', 'textbox', 'combobox', 'checkbox', 'spinbutton', 'grid', 'gridcell', 'list', 'link', 'rowheader', 'group', 'table'].includes(role));
+        ['button', 'textbox', 'combobox', 'checkbox', 'spinbutton', 'grid', 'gridcell', 'list', 'link', 'rowheader', 'group', 'table']
+            .includes(role));
     assert.deepEqual(controls.filter(({ name, role }) => name.trim() === '' && role !== 'list'), []);
     const named = (role) => controls.filter((node) => node.role === role).map(({ name }) => name);
     assert.deepEqual(named('textbox'), ['Keys in hexadecimal']);
@@ -361,9 +370,8 @@ onPage('for a screen reader', async (page) => {
     assert.ok(named('list').includes('The keys, in the order in which they are joined'));
     assert.ok(named('button').includes('Remove: the key at place 5'));
     const headings = nodes.filter(({ role }) => role === 'heading').map(({ name }) => name);
-    for (const name of ['Reopen a published match', 'The keys', 'The board', 'The shares of a square', 'A coalition', 'What is proved, and what is not']) {
-        assert.ok(headings.includes(name), name);
-    }
+    const parts = ['Reopen a published match', 'The keys', 'The board', 'The shares of a square', 'A coalition', 'What is proved, and what is not'];
+    for (const name of parts) assert.ok(headings.includes(name), name);
     const live = nodes.filter(({ live: how }) => how === 'polite' || how === 'assertive').map(({ role }) => role);
     assert.deepEqual(live.sort(), ['alert', 'alert', 'status', 'status', 'status']);
     assert.equal(await page.run(() => document.documentElement.lang), 'en');
@@ -422,7 +430,9 @@ for (const scheme of ['light', 'dark']) {
                 .map((control) => [control.id || control.textContent, (control.closest('label') ?? control).getBoundingClientRect()])
                 .filter(([, { width, height }]) => width < 24 || height < 24).map(([control]) => control));
             assert.deepEqual(small, []);
-            for (const part of ['keys-part', 'boards', 'square-part', 'coalition-part', 'proved-part']) await page.screenshot(`${pictures}${scheme}-${name}-${part}.png`, `#${part}`);
+            for (const part of ['keys-part', 'boards', 'square-part', 'coalition-part', 'proved-part']) {
+                await page.screenshot(`${pictures}${scheme}-${name}-${part}.png`, `#${part}`);
+            }
             const ground = await page.run(() => getComputedStyle(document.documentElement).backgroundColor);
             assert.equal(ground, scheme === 'light' ? 'rgb(250, 249, 245)' : 'rgb(20, 23, 28)');
         }, { ...size, scheme });
@@ -443,7 +453,8 @@ test('the page can send nothing: its own policy forbids it', async () => {
         return Promise.all(tried.map((attempt) => attempt().then(() => 'done', () => 'forbidden')));
     });
     assert.deepEqual(answer, ['forbidden', 'forbidden']);
-    assert.ok(page.complaints.every((complaint) => /Content Security Policy/.test(complaint)) && page.complaints.length >= 2, page.complaints.join('\n'));
+    assert.ok(page.complaints.length >= 2 && page.complaints.every((complaint) => /Content Security Policy/.test(complaint)),
+        page.complaints.join('\n'));
     assert.match(readFileSync(place, 'utf8'), /default-src 'none'; script-src 'sha256-/);
     await page.close();
 });
