@@ -1,6 +1,5 @@
 // Tests of nosingginger.mjs in node: every call, every refusal, the printed deal, what is left of a lent output, the largest table, the
-// memory's growth, and the second implementation's answers. Assumes target/targets/wasm32/nosingginger.wasm and, for the last, the file
-// cases.bin of `reference make-data`, named by NOSINGGINGER_CASES or in target/web/.
+// memory's growth, the second implementation's answers, and what the page makes of keys. Assumes that targets/build has run.
 import assert from 'node:assert/strict';
 import { readFileSync, readdirSync } from 'node:fs';
 import { test } from 'node:test';
@@ -307,7 +306,7 @@ const OPERATIONS = {
 };
 
 test('the second implementation\u2019s answers, all cases of the eleven operations', () => {
-    const file = readFileSync(process.env.NOSINGGINGER_CASES ?? new URL('target/web/cases.bin', root));
+    const file = readFileSync(new URL('crates/compare/data/cases.bin', root));
     assert.equal(file.toString('latin1', 0, 8), 'NGCASES1');
     const bytes = new Uint8Array(file);
     const view = new DataView(bytes.buffer);
