@@ -1,5 +1,5 @@
-/* The test of a target on a bare Cortex-M4: the data is streamed from the machine beside the board by semihosting, so that it takes no
-   memory here. The stack lies at the bottom of the memory: where it overflows there is nothing, and the board faults. */
+/* The test of a target on a bare Cortex-M4 with 64 KiB of memory: the data is streamed from the machine beside the board by semihosting, so
+   that it takes no memory here. The stack lies at the bottom of the memory: where it overflows there is nothing, and the board faults. */
 #include "platform.h"
 
 enum { OPEN = 0x01, WRITE = 0x05, READ = 0x06, EXIT = 0x20, STOPPED = 0x20026, PAINT = 0xA5 };
@@ -56,9 +56,21 @@ static void say_stack(void)
     text(" bytes\n");
 }
 
+/* The emulated board has 128 KiB; its protection unit takes the upper 64 KiB away, so that a touch of them faults. */
+static void take_upper_half(void)
+{
+    volatile uint32_t *const control = (uint32_t *)0xE000ED94, *const region = (uint32_t *)0xE000ED98;
+    region[0] = 0;
+    region[1] = 0x20010000;
+    region[2] = 1u << 28 | 15u << 1 | 1; /* nothing is run, read or written there; 2^16 bytes; on */
+    *control = 5;                        /* on, and all else stays as it is */
+    __asm__ volatile("dsb\nisb" ::: "memory");
+}
+
 __attribute__((used)) static void run(void)
 {
     int status;
+    take_upper_half();
     for (uint8_t *at = bss_begin; at < bss_end; at++)
         *at = 0;
     data_file = open("cases.bin", 9, 1);
@@ -79,7 +91,7 @@ __attribute__((naked)) void reset(void)
 /* On a fault the stack may be gone, so a new one begins at the top. */
 __attribute__((used)) static void say_fault(void)
 {
-    text("FAULT: the stack is too small, or the code is wrong\n");
+    text("FAULT: the stack (board_stack of targets/settings) is too small, or bytes outside the memory were touched\n");
     end(3);
 }
 
