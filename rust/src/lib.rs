@@ -252,3 +252,8 @@ pub fn sensor_position(sensor: u32) -> Result<u32, Refusal> {
     let mut position = 0;
     answered(unsafe { raw::nsg_sensor_position(sensor, &mut position) }).map(|()| position)
 }
+
+/// The repository's README, whose example runs too.
+#[cfg(doctest)]
+#[doc = include_str!("../../README.md")]
+pub struct RepositoryReadme;
