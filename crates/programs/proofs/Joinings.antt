@@ -24,7 +24,7 @@ use Rattle.nosingginger.specs.JoinKeys.{numbers-refusal, head-refusal, keys-ref
 use Rattle.nosingginger.proofs.Answering.{first-fits, next-fits, put-refused, put-done}
 use Rattle.nosingginger.proofs.InTurn.{neither, numbers-fine}
 use Rattle.nosingginger.proofs.Putting.{answer-is, put, untouched, take-front}
-use Rattle.nosingginger.proofs.JoinedKeys.{Joined, joined-says, joined-word}
+use Rattle.promises.proofs.JoinedKeys.{Joined, joined-says, joined-word}
 use Rattle.text.specs.Text.{refused-line, table-text}
 use Rattle.programs.specs.Programs.{Writes, joining-refusal, joined, joining-output, Joins}
 use Rattle.programs.proofs.Writing.{put-front, writes-within}

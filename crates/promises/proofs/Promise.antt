@@ -7,10 +7,10 @@ use Rattle.grid.proofs.Joining.{shares-join, words-join}
 use Rattle.grid.proofs.Hiding.{tells-nothing, just-one-dealing, no-other-dealing, moved-is-named, moving-finds}
 use Rattle.keys.proofs.Promise.{header-reads, reads-parts, only-writing, same-parts, dealt-accepted, keys-long, keys-apart, table-long, opens-alone, keys-open, tables-join, full-tables-join}
 use Rattle.keys.proofs.Document03
-use Rattle.nosingginger.specs.Promise.{Expansion-is-a-rule, Promises}
-use Rattle.nosingginger.proofs.OpenedKey.{expansion}
-use Rattle.nosingginger.proofs.Calls.{deals-open, accepted-opens, opens-agree, joins-agree, refused-leaves, answered-keeps}
-use Rattle.nosingginger.proofs.Marked.{marked-deals}
+use Rattle.promises.specs.Promise.{Expansion-is-a-rule, Promises}
+use Rattle.promises.proofs.OpenedKey.{expansion}
+use Rattle.promises.proofs.Calls.{deals-open, accepted-opens, opens-agree, joins-agree, refused-leaves, answered-keeps}
+use Rattle.promises.proofs.Marked.{marked-deals}
 
 pub expansion-is-a-rule : Expansion-is-a-rule
 unfolding Expansion-is-a-rule

@@ -18,14 +18,14 @@ use Rattle.keys.specs.Keys.{Lent, dealing, opened, key, keys-from, key-long, de
 use Rattle.keys.specs.Promise.{lent-good, point-table, Dealt-accepted, Keys-open, Tables-join}
 use Rattle.keys.proofs.Dealing.{lent-in}
 use Rattle.keys.proofs.Promise.{dealt-accepted, dealt-board, dealt-word, keys-open, tables-join}
 use Rattle.nosingginger.specs.Entry.{or-else, in-front, says, lent, rule, key-rule, Deal-says, Long-says, Open-one-says, Open-all-says, joined-shares, shares-refusal, Join-says}
 use Rattle.nosingginger.specs.JoinKeys.{Join-keys-says}
-use Rattle.nosingginger.specs.Calls.{Dealt, key-part, Past-kept}
+use Rattle.promises.specs.Calls.{Dealt, key-part, Past-kept}
 use Rattle.nosingginger.specs.declared.Answer.{Answer}
 use Rattle.nosingginger.proofs.InTurn.{neither}
 use Rattle.nosingginger.proofs.Putting.{room-there, answer-is, put, take-front, drop-front, length-front}
-use Rattle.nosingginger.proofs.OpenedKey.{opened-table, expansion, all-answered, one-opened, own-entry-long}
-use Rattle.nosingginger.proofs.DealtKeys.{lent-accepted, keys-length, key-cut, tables-over, keys-joined}
+use Rattle.promises.proofs.OpenedKey.{opened-table, expansion, all-answered, one-opened, own-entry-long}
+use Rattle.promises.proofs.DealtKeys.{lent-accepted, keys-length, key-cut, tables-over, keys-joined}
 
 -- what is put in front leaves the rest
 pub past : (k : ℕ) (new out out-now : List ℕ) → length new ≡ k → k ≤ length out → out-now ≡ in-front new out → Past-kept k out out-now
