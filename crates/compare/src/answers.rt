@@ -1,9 +1,8 @@
 // What a call answered and left behind, beside what the file says. Assumes nothing.
 ghost use mathlib.Core.Path.{_≡_};
 ghost use mathlib.Core.Bool.{true};
-ghost use mathlib.Core.List.{_++_};
-ghost use Prim.Native.Nat.{_-_};
 ghost use lib.ListN.{length, replicate};
+ghost use Rattle.compare.specs.Answers.{Same-numbers, Left};
 use crate::file::REFUSAL;
 use crate::file::RESULT_1;
 use crate::file::RESULT_2;
@@ -48,7 +47,9 @@ pub fn alone(refusal: u32) -> Answered {
 }
 
 // Whether a case has these numbers.
-pub fn same_numbers(head: &[u8], got: Answered) -> bool {
+pub fn same_numbers(head: &[u8], got: Answered) -> bool
+    ensures { λ r. ⌜ (r ≡ true → Same-numbers (now (head .entry)) got) ⌝ }
+{
     if got.refusal != byte(head, REFUSAL) as u32 {
         return false;
     }
@@ -94,7 +95,7 @@ fn filled(bytes: &[u8], filler: u8) -> bool
 
 // Whether a lent output is the answer's bytes, and behind them the fill that was there.
 pub fn left(lent: &[u8], answer: &[u8], filler: u8) -> bool
-    ensures { λ r. ⌜ (r ≡ true → now (lent .entry) ≡ now (answer .entry) ++ replicate (length (now (lent .entry)) - length (now (answer .entry))) filler) ⌝ }
+    ensures { λ r. ⌜ (r ≡ true → Left (now (answer .entry)) filler (now (lent .entry))) ⌝ }
 {
     let written = answer.len();
     if lent.len() < written {

@@ -1,5 +1,9 @@
 // The calls, one function for each operation: the numbers are read from a case's head, the inputs are parts of its inputs, and `lent` is the
 // lent output. Assumes nothing.
+ghost use mathlib.Core.Path.{_≡_};
+ghost use mathlib.Core.Bool.{true};
+ghost use lib.ListN.{getD};
+ghost use Rattle.compare.specs.Answers.{Left};
 use crate::answers::Answered;
 use crate::answers::alone;
 use crate::answers::answer;
@@ -138,7 +142,9 @@ fn called(operation: u8, head: &[u8], inputs: &[u8], lent: &mut [u8]) -> Answere
 }
 
 // The call on a lent output that is full of the fill.
-fn on_lent(operation: u8, head: &[u8], inputs: &[u8], answer: &[u8], lent: &mut [u8]) -> bool {
+fn on_lent(operation: u8, head: &[u8], inputs: &[u8], answer: &[u8], lent: &mut [u8]) -> bool
+    ensures { λ r. ⌜ (r ≡ true → Left (now (answer .entry)) (getD (now (head .entry)) 2 0) (now (lent .exit))) ⌝ }
+{
     let filler = byte(head, FILL);
     fill(lent, filler);
     let got = called(operation, head, inputs, lent);

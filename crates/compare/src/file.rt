@@ -2,14 +2,17 @@
 // known of a file before it is read, and a damaged one gives cases that differ. Assumes nothing.
 ghost use mathlib.Core.Path.{_≡_};
 ghost use Prim.Native.Nat.{_+_, _*_, _≤_};
-ghost use lib.ListN.{length, take, drop, getD};
+ghost use lib.ListN.{take, drop};
+ghost use Rattle.compare.specs.File.{number-in, number-at};
 use keys::grid_row::part_from;
 use keys::reader::byte;
 
-// The file's first part: a name of 8 bytes, how many cases follow, and three numbers more.
+// The file's first part, and what stands where in it behind a name of 8 bytes.
 pub const FILE_HEAD_BYTES: usize = 24;
 
 const FILE_CASES: usize = 8;
+
+const FILE_LENGTH: usize = 20;
 
 // A case's first part, and what stands where in it.
 pub const HEAD_BYTES: usize = 68;
@@ -80,7 +83,9 @@ fn four(first: u8, second: u8, third: u8, fourth: u8) -> u32
 }
 
 // The number that bytes begin with.
-fn number(bytes: &[u8]) -> u32 {
+fn number(bytes: &[u8]) -> u32
+    ensures { λ r. ⌜ r ≡ number-in (now (bytes .entry)) ⌝ }
+{
     four(
         byte(bytes, 0),
         byte(bytes, 1),
@@ -90,31 +95,47 @@ fn number(bytes: &[u8]) -> u32 {
 }
 
 // The number at a place.
-pub fn number_at(bytes: &[u8], at: usize) -> u32 {
+pub fn number_at(bytes: &[u8], at: usize) -> u32
+    ensures { λ r. ⌜ r ≡ number-at (now (bytes .entry)) at ⌝ }
+{
     number(part_from(bytes, at))
 }
 
 // A length at a place.
 pub fn length_at(bytes: &[u8], at: usize) -> usize
-    ensures { λ r. ⌜ r ≤ 4294967295 ⌝ }
+    ensures { λ r. ⌜ (r ≤ 4294967295) × (r ≡ number-at (now (bytes .entry)) at) ⌝ }
 {
     number_at(bytes, at) as usize
 }
 
-// How many cases the file says it has.
+// How many cases the file says it has; 0 where it is no file of cases, is not whole, or has no room for so many.
 pub fn count(file: &[u8]) -> u32 {
-    number_at(file, FILE_CASES)
+    if !check::same(front(file, 8), b"NGCASES1") {
+        return 0;
+    }
+    if length_at(file, FILE_LENGTH) != file.len() {
+        return 0;
+    }
+    let cases = number_at(file, FILE_CASES);
+    if file.len() / HEAD_BYTES < cases as usize {
+        return 0;
+    }
+    cases
 }
 
 // Bytes of a case's inputs together.
-pub fn inputs_length(head: &[u8]) -> usize {
+pub fn inputs_length(head: &[u8]) -> usize
+    ensures { λ r. ⌜ r ≡ number-at (now (head .entry)) 44 + number-at (now (head .entry)) 48 + number-at (now (head .entry)) 52 + number-at (now (head .entry)) 56 ⌝ }
+{
     length_at(head, INPUT_1)
         + length_at(head, INPUT_2)
         + length_at(head, INPUT_3)
         + length_at(head, INPUT_4)
 }
 
-pub fn answer_length(head: &[u8]) -> usize {
+pub fn answer_length(head: &[u8]) -> usize
+    ensures { λ r. ⌜ r ≡ number-at (now (head .entry)) 64 ⌝ }
+{
     length_at(head, ANSWER)
 }
 
