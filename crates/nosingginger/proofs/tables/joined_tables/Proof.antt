@@ -32,7 +32,7 @@ whole c = entry c .pre .1 ∙ ap (λ (n : ℕ). entry c .args .board .players * 
 -- the key before `end` stands among the keys
 within : (c : tie.In-loop Inv-loop μ-loop) → (c .before .before .key-length .result ≤ c .before .loop .end)
     × (c .before .loop .end ≤ length (now (entry (c .before .before) .args .keys)))
-within c = let l = c .before .loop in inside refl (c .loop-test .taken) (l .inv .0) (l .inv .1) (whole (c .before .before))
+within c = let l = c .before .loop in inside refl (omega (arith, c .loop-test .taken)) (l .inv .0) (l .inv .1) (whole (c .before .before))
 
 clear-requires : tie.Need-clear-requires Inv-loop μ-loop
 clear-requires c κs = search needs
@@ -65,7 +65,7 @@ add-rows-requires c κs =
     let l = p .before .loop in
     let m = p .before .before in
     let s = entry m in
-    let key = key-before (board-of (s .args .board)) (now (s .args .keys)) _ (l .player) _ (l .end) (s .pre .1) (s .pre .2) (m .key-length .ensures) (p .loop-test .taken) (l .inv .0) (l .inv .1) in
+    let key = key-before (board-of (s .args .board)) (now (s .args .keys)) _ (l .player) _ (l .end) (s .pre .1) (s .pre .2) (m .key-length .ensures) (omega (arith, p .loop-test .taken)) (l .inv .0) (l .inv .1) in
     (record { accepted = key .0; board-is = key .1; player-is = key .2 }, l .inv .2 ∙ m .before .before .before .clear .kept .0 ∙ s .pre .3)
 
 sub-player : tie.Need-sub-player Inv-loop μ-loop
@@ -81,7 +81,7 @@ loop-again c =
     let l = p .before .loop in
     let m = p .before .before in
     let s = entry m in
-    let more = table-more (s .args .board .players) (l .player) _ (l .end) (board-of (s .args .board)) (now (s .args .keys)) (l .out) _ (m .key-length .ensures) (p .loop-test .taken) (l .inv .0) (l .inv .1) (l .inv .3)
+    let more = table-more (s .args .board .players) (l .player) _ (l .end) (board-of (s .args .board)) (now (s .args .keys)) (l .out) _ (m .key-length .ensures) (omega (arith, p .loop-test .taken)) (l .inv .0) (l .inv .1) (l .inv .3)
     (added .add-rows .ensures) in (omega arith, more .0, added .add-rows .kept .1 .1 .0 ∙ l .inv .2, more .1)
 
 same-length : tie.Need-same-length Inv-loop μ-loop

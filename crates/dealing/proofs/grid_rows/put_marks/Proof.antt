@@ -1,4 +1,4 @@
--- `dealing::rows::put_marks` meets its contract. The loop's invariant: the first bytes of marks are written. Assumes nothing.
+-- `dealing::grid_rows::put_marks` meets its contract. The loop's invariant: the first bytes of marks are written. Assumes nothing.
 use mathlib.Core.Path.{_≡_, refl, _∙_, subst}
 use Prim.Native.Nat.{ℕ, _-_, _≤_}
 use native.Mathlib.Omega.{arith}
@@ -8,11 +8,11 @@ use Rattle.keys.specs.Keys.{packed}
 use Rattle.writer.specs.Written.{Wrote}
 use Rattle.writer.proofs.Laws.{wrote-nothing}
 use Rattle.dealing.proofs.RowBytes.{packed-long, marks-turn}
-use Rattle.dealing.proofs.rows.put_marks.Statement.{statement}
-use Rattle.dealing.proofs.rows.put_marks.Tie as tie
-use Rattle.dealing.proofs.rows.put_marks.Reads as reads
-use Rattle.dealing.proofs.rows.put_marks.Lts as lts
-use Rattle.dealing.proofs.rows.mark_byte.Reads as mark-byte-reads
+use Rattle.dealing.proofs.grid_rows.put_marks.Statement.{statement}
+use Rattle.dealing.proofs.grid_rows.put_marks.Tie as tie
+use Rattle.dealing.proofs.grid_rows.put_marks.Reads as reads
+use Rattle.dealing.proofs.grid_rows.put_marks.Lts as lts
+use Rattle.dealing.proofs.grid_rows.mark_byte.Reads as mark-byte-reads
 use Rattle.writer.proofs.put_byte.Reads as put-byte-reads
 
 abbrev Inv-loop : tie.InvT-loop

@@ -1,11 +1,11 @@
--- `dealing::rows::marked` meets its contract. Assumes nothing.
+-- `dealing::grid_rows::marked` meets its contract. Assumes nothing.
 use mathlib.Core.Path.{refl}
 use Rattle.grid.specs.Grid.{bit}
 use borrow.Author.Needs.{needs}
-use Rattle.dealing.proofs.rows.marked.Statement.{statement}
-use Rattle.dealing.proofs.rows.marked.Tie as tie
-use Rattle.dealing.proofs.rows.marked.Reads as reads
-use Rattle.dealing.proofs.rows.marked.Lts as lts
+use Rattle.dealing.proofs.grid_rows.marked.Statement.{statement}
+use Rattle.dealing.proofs.grid_rows.marked.Tie as tie
+use Rattle.dealing.proofs.grid_rows.marked.Reads as reads
+use Rattle.dealing.proofs.grid_rows.marked.Lts as lts
 
 cast-result : tie.Need-cast-result
 cast-result c = search needs

@@ -1,4 +1,4 @@
--- `dealing::rows::mark_byte` meets its contract. The loop goes down from the last mark; its invariant: the byte packs the marks from the place on.
+-- `dealing::grid_rows::mark_byte` meets its contract. The loop goes down from the last mark; its invariant: the byte packs the marks from the place on.
 -- Assumes nothing.
 use mathlib.Core.Path.{_≡_, refl, _∙_}
 use mathlib.Core.Bool.{Bool, true, false, cond}
@@ -12,11 +12,11 @@ use denote.Ref.{now}
 use Rattle.keys.specs.Keys.{packed-from}
 use Rattle.dealing.specs.Rows.{mark-digit}
 use Rattle.dealing.proofs.RowBytes.{packed-room, packed-next}
-use Rattle.dealing.proofs.rows.mark_byte.Statement.{statement}
-use Rattle.dealing.proofs.rows.mark_byte.Tie as tie
-use Rattle.dealing.proofs.rows.mark_byte.Reads as reads
-use Rattle.dealing.proofs.rows.mark_byte.Lts as lts
-use Rattle.dealing.proofs.rows.mark_digit.Reads as mark-digit-reads
+use Rattle.dealing.proofs.grid_rows.mark_byte.Statement.{statement}
+use Rattle.dealing.proofs.grid_rows.mark_byte.Tie as tie
+use Rattle.dealing.proofs.grid_rows.mark_byte.Reads as reads
+use Rattle.dealing.proofs.grid_rows.mark_byte.Lts as lts
+use Rattle.dealing.proofs.grid_rows.mark_digit.Reads as mark-digit-reads
 
 -- a digit is 0 or 1
 digit-small : {digit : ℕ} (column player : ℕ) → digit ≡ mark-digit column player → digit ≤ 1

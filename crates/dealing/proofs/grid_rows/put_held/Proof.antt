@@ -1,4 +1,4 @@
--- `dealing::rows::put_held` meets its contract. The loop's invariant: the seeds held of the columns before this one are written. Assumes nothing.
+-- `dealing::grid_rows::put_held` meets its contract. The loop's invariant: the seeds held of the columns before this one are written. Assumes nothing.
 use mathlib.Core.Path.{_≡_, refl, _∙_, subst}
 use mathlib.Core.Bool.{Bool, cond}
 use mathlib.Core.List.{List, []}
@@ -14,12 +14,12 @@ use Rattle.writer.proofs.Laws.{wrote-nothing}
 use borrow.Author.Needs.{needs}
 use Rattle.dealing.proofs.Cuts.{part-long}
 use Rattle.dealing.proofs.RowBytes.{held-within, held-turn}
-use Rattle.dealing.proofs.rows.put_held.Statement.{statement}
-use Rattle.dealing.proofs.rows.put_held.Tie as tie
-use Rattle.dealing.proofs.rows.put_held.Reads as reads
-use Rattle.dealing.proofs.rows.put_held.Lts as lts
-use Rattle.dealing.proofs.rows.marked.Reads as marked-reads
-use Rattle.dealing.proofs.rows.put_if.Reads as put-if-reads
+use Rattle.dealing.proofs.grid_rows.put_held.Statement.{statement}
+use Rattle.dealing.proofs.grid_rows.put_held.Tie as tie
+use Rattle.dealing.proofs.grid_rows.put_held.Reads as reads
+use Rattle.dealing.proofs.grid_rows.put_held.Lts as lts
+use Rattle.dealing.proofs.grid_rows.marked.Reads as marked-reads
+use Rattle.dealing.proofs.grid_rows.put_if.Reads as put-if-reads
 
 -- the next seed has its room
 held-room : (column player at : ℕ) (held : Bool) {next : ℕ} (array seeds old : List ℕ) {between : List ℕ} → column < length array → 32 * length array ≤ length seeds →

@@ -1,4 +1,4 @@
--- `dealing::rows::mark_digit` meets its contract. Assumes nothing.
+-- `dealing::grid_rows::mark_digit` meets its contract. Assumes nothing.
 use mathlib.Core.Path.{sym, ap, _∙_}
 use Prim.Native.Nat.{ℕ}
 use native.Mathlib.Omega.{arith}
@@ -7,11 +7,11 @@ use denote.Ref.{now}
 use Rattle.keys.proofs.Marks.{bit-nothing}
 use Rattle.dealing.specs.Rows.{mark-digit}
 use borrow.Author.Needs.{needs}
-use Rattle.dealing.proofs.rows.mark_digit.Statement.{statement}
-use Rattle.dealing.proofs.rows.mark_digit.Tie as tie
-use Rattle.dealing.proofs.rows.mark_digit.Reads as reads
-use Rattle.dealing.proofs.rows.mark_digit.Lts as lts
-use Rattle.dealing.proofs.rows.marked.Reads as marked-reads
+use Rattle.dealing.proofs.grid_rows.mark_digit.Statement.{statement}
+use Rattle.dealing.proofs.grid_rows.mark_digit.Tie as tie
+use Rattle.dealing.proofs.grid_rows.mark_digit.Reads as reads
+use Rattle.dealing.proofs.grid_rows.mark_digit.Lts as lts
+use Rattle.dealing.proofs.grid_rows.marked.Reads as marked-reads
 
 returns : tie.Need-returns
 unfolding mark-digit

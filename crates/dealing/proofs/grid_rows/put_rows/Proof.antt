@@ -1,4 +1,4 @@
--- `dealing::rows::put_rows` meets its contract. The loop's invariant: the grid rows before this one are written. Assumes nothing.
+-- `dealing::grid_rows::put_rows` meets its contract. The loop's invariant: the grid rows before this one are written. Assumes nothing.
 use mathlib.Core.Path.{_≡_, refl, _∙_, subst}
 use Prim.Native.Nat.{ℕ, _+_, _*_, _-_, _≤_, _<_}
 use native.Mathlib.Omega.{arith}
@@ -12,12 +12,12 @@ use Rattle.writer.specs.Written.{Wrote}
 use Rattle.writer.proofs.Laws.{wrote-nothing}
 use borrow.Author.Needs.{needs}
 use Rattle.dealing.proofs.RowBytes.{row-here, row-room, row-seeds, mark-bytes-most, body-within, rows-turn}
-use Rattle.dealing.proofs.rows.put_rows.Statement.{statement}
-use Rattle.dealing.proofs.rows.put_rows.Tie as tie
-use Rattle.dealing.proofs.rows.put_rows.Reads as reads
-use Rattle.dealing.proofs.rows.put_rows.Lts as lts
+use Rattle.dealing.proofs.grid_rows.put_rows.Statement.{statement}
+use Rattle.dealing.proofs.grid_rows.put_rows.Tie as tie
+use Rattle.dealing.proofs.grid_rows.put_rows.Reads as reads
+use Rattle.dealing.proofs.grid_rows.put_rows.Lts as lts
 use Rattle.keys.proofs.grid_row.mark_bytes.Reads as mark-bytes-reads
-use Rattle.dealing.proofs.rows.put_row.Reads as put-row-reads
+use Rattle.dealing.proofs.grid_rows.put_row.Reads as put-row-reads
 use Rattle.grid.proofs.board.Board.columns.Reads as columns-reads
 use Rattle.grid.proofs.board.Board.grid_rows.Reads as grid-rows-reads
 

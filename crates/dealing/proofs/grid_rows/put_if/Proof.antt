@@ -1,4 +1,4 @@
--- `dealing::rows::put_if` meets its contract. Assumes nothing.
+-- `dealing::grid_rows::put_if` meets its contract. Assumes nothing.
 use mathlib.Core.Path.{sym, subst}
 use mathlib.Core.Bool.{Bool, cond}
 use mathlib.Core.List.{[]}
@@ -8,10 +8,10 @@ use denote.Ref.{now}
 use Rattle.writer.specs.Written.{Wrote}
 use Rattle.writer.proofs.Laws.{wrote-nothing}
 use borrow.Author.Needs.{needs}
-use Rattle.dealing.proofs.rows.put_if.Statement.{statement}
-use Rattle.dealing.proofs.rows.put_if.Tie as tie
-use Rattle.dealing.proofs.rows.put_if.Reads as reads
-use Rattle.dealing.proofs.rows.put_if.Lts as lts
+use Rattle.dealing.proofs.grid_rows.put_if.Statement.{statement}
+use Rattle.dealing.proofs.grid_rows.put_if.Tie as tie
+use Rattle.dealing.proofs.grid_rows.put_if.Reads as reads
+use Rattle.dealing.proofs.grid_rows.put_if.Lts as lts
 use Rattle.writer.proofs.put.Reads as put-reads
 
 put-requires : tie.Need-put-requires

@@ -1,4 +1,4 @@
--- `dealing::rows::put_row` meets its contract: marks, and held seeds behind them. Assumes nothing.
+-- `dealing::grid_rows::put_row` meets its contract: marks, and held seeds behind them. Assumes nothing.
 use native.Mathlib.Omega.{arith}
 use denote.Ref.{now}
 use Rattle.keys.specs.Keys.{packed, held-seeds}
@@ -6,12 +6,12 @@ use Rattle.writer.proofs.Laws.{wrote-then}
 use borrow.Author.Needs.{needs}
 use Rattle.dealing.specs.Rows.{row-bytes}
 use Rattle.dealing.proofs.RowBytes.{packed-long, row-parts}
-use Rattle.dealing.proofs.rows.put_row.Statement.{statement}
-use Rattle.dealing.proofs.rows.put_row.Tie as tie
-use Rattle.dealing.proofs.rows.put_row.Reads as reads
-use Rattle.dealing.proofs.rows.put_row.Lts as lts
-use Rattle.dealing.proofs.rows.put_held.Reads as put-held-reads
-use Rattle.dealing.proofs.rows.put_marks.Reads as put-marks-reads
+use Rattle.dealing.proofs.grid_rows.put_row.Statement.{statement}
+use Rattle.dealing.proofs.grid_rows.put_row.Tie as tie
+use Rattle.dealing.proofs.grid_rows.put_row.Reads as reads
+use Rattle.dealing.proofs.grid_rows.put_row.Lts as lts
+use Rattle.dealing.proofs.grid_rows.put_held.Reads as put-held-reads
+use Rattle.dealing.proofs.grid_rows.put_marks.Reads as put-marks-reads
 
 put-marks-requires : tie.Need-put-marks-requires
 put-marks-requires c κs =
