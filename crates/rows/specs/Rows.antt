@@ -1,0 +1,11 @@
+-- The rows of seeds that stand one after another, XORed. Assumes nothing: these are definitions.
+use mathlib.Core.List.{List}
+use Prim.Native.Nat.{ℕ, zero, suc}
+use lib.ListN.{take, drop}
+use Rattle.xor.specs.Xor.{xors, zeros}
+use Rattle.chacha20.specs.Expand.{expand}
+
+-- the XOR of the rows of n bytes that the first `left` seeds, of 32 bytes each, expand to
+unfoldable pub rows-joined : (left n : ℕ) → (seeds : List ℕ) → List ℕ
+rows-joined zero n ss = zeros n
+rows-joined (suc k) n ss = xors (expand n (take 32 ss)) (rows-joined k n (drop 32 ss))
