@@ -9,8 +9,8 @@ use Rattle.keys.specs.Answers.{checked-as, key-checked}
 use Rattle.keys.specs.declared.reader.Header.{Header}
 use Rattle.keys.specs.declared.check.KeyCheck.{KeyCheck}
 use Rattle.keys.proofs.Holding.{refused-says}
-use Rattle.nosingginger.specs.Entry.{says}
-use Rattle.nosingginger.specs.declared.Answer.{Answer}
+use Rattle.entry.specs.Entry.{says}
+use Rattle.entry.specs.declared.Answer.{Answer}
 use Rattle.nosingginger_c.specs.C.{Through, Value-put, Check-says}
 
 pub value-kept : (n v o : ℕ) → (n ≡ 0 → ⊥) → Value-put n v n o o

@@ -5,7 +5,7 @@ use mathlib.Core.Bool.{cond}
 use mathlib.Core.List.{List, []}
 use Prim.Native.Nat.{ℕ}
 use lib.Dec.{eqb}
-use Rattle.nosingginger.specs.declared.Answer.{Answer}
+use Rattle.entry.specs.declared.Answer.{Answer}
 use Rattle.keys.specs.Answers.{Checked, key-checked}
 
 -- a number returned and a value behind a pointer, as the operation's one answer; where it is refused the value keeps what stood there

@@ -2,8 +2,8 @@
 // u32 or u64, and everything else is written through pointers, so that one module serves every machine. Assumes nothing.
 ghost use mathlib.Core.Path.{_≡_};
 ghost use Rattle.keys.specs.Held.{held-seed-place};
-ghost use Rattle.nosingginger.specs.Entry.{Deal-says, Long-says, Open-one-says, Open-all-says, Join-says, Expand-says, Width-says, Sensor-says};
-ghost use Rattle.nosingginger.specs.JoinKeys.{Join-keys-says};
+ghost use Rattle.entry.specs.Entry.{Deal-says, Long-says, Open-one-says, Open-all-says, Join-says, Expand-says, Width-says, Sensor-says};
+ghost use Rattle.join_calls.specs.JoinKeys.{Join-keys-says};
 ghost use Rattle.nosingginger_c.specs.C.{Through, Value-put, Check-says};
 use keys::held::held_seed_place;
 use nosingginger::Answer;

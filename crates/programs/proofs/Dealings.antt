@@ -22,10 +22,10 @@ use Rattle.keys.specs.declared.reader.Header.{Header}
 use Rattle.keys.specs.declared.reader.Heading.{Heading}
 use Rattle.keys.proofs.Reading.{heading-says, heading-none}
 use Rattle.keys.proofs.Accepted.{passed, last-passed, refusing}
-use Rattle.nosingginger.specs.Entry.{or-else, lent, Put-says, Deal-says}
-use Rattle.nosingginger.proofs.Answering.{first-fits, next-fits}
-use Rattle.nosingginger.proofs.InTurn.{neither}
-use Rattle.nosingginger.proofs.Putting.{room-there, answer-is, put, untouched}
+use Rattle.entry.specs.Entry.{or-else, lent, Put-says, Deal-says}
+use Rattle.entry.proofs.Answering.{first-fits, next-fits}
+use Rattle.join_calls.proofs.InTurn.{neither}
+use Rattle.entry.proofs.Putting.{room-there, answer-is, put, untouched}
 use Rattle.promises.proofs.DealtKeys.{lent-accepted, keys-length}
 use Rattle.text.specs.Text.{refused-line}
 use Rattle.programs.specs.Programs.{Writes, input-in, asked-bytes, lent-in, asked-refusal, lent-refusal, dealing-refusal, keys-of, dealing-output, dealt-output, Deals}

@@ -19,11 +19,11 @@ use Rattle.keys.specs.declared.reader.Reader.{Reader}
 use Rattle.keys.specs.declared.reader.Header.{Header}
 use Rattle.keys.specs.declared.reader.Heading.{Heading}
 use Rattle.keys.proofs.Reading.{heading-says, heading-none}
-use Rattle.nosingginger.specs.Entry.{or-else, in-front, Put-says}
-use Rattle.nosingginger.specs.JoinKeys.{numbers-refusal, head-refusal, keys-refusal, joined-table, Join-keys-says}
-use Rattle.nosingginger.proofs.Answering.{first-fits, next-fits, put-refused, put-done}
-use Rattle.nosingginger.proofs.InTurn.{neither, numbers-fine}
-use Rattle.nosingginger.proofs.Putting.{answer-is, put, untouched, take-front}
+use Rattle.entry.specs.Entry.{or-else, in-front, Put-says}
+use Rattle.join_calls.specs.JoinKeys.{numbers-refusal, head-refusal, keys-refusal, joined-table, Join-keys-says}
+use Rattle.entry.proofs.Answering.{first-fits, next-fits, put-refused, put-done}
+use Rattle.join_calls.proofs.InTurn.{neither, numbers-fine}
+use Rattle.entry.proofs.Putting.{answer-is, put, untouched, take-front}
 use Rattle.promises.proofs.JoinedKeys.{Joined, joined-says, joined-word}
 use Rattle.text.specs.Text.{refused-line, table-text}
 use Rattle.programs.specs.Programs.{Writes, joining-refusal, joined, joining-output, Joins}

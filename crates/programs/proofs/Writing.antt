@@ -11,7 +11,7 @@ use lib.Seq.{length-take-le, drop-append-le}
 use borrow.Author.Tests.{lt-ltb, le-ltb}
 use Rattle.writer.specs.Written.{Wrote}
 use Rattle.writer.proofs.Laws.{written-front}
-use Rattle.nosingginger.specs.Entry.{in-front, Put-says}
+use Rattle.entry.specs.Entry.{in-front, Put-says}
 use Rattle.text.specs.Text.{refused-line}
 use Rattle.programs.specs.Programs.{Writes}
 

@@ -8,8 +8,8 @@ use lib.Dec.{ltb, leb, eqb}
 use lib.ListN.{length, take, drop}
 use Rattle.grid.specs.Grid.{Board, board, board-refusal, columns, grid-rows, row-long, arrays-good}
 use Rattle.keys.specs.Keys.{number-in, head-in, Lent, key-long, keys-from}
-use Rattle.nosingginger.specs.Entry.{or-else, in-front, lent, rule, Deal-says}
-use Rattle.nosingginger.specs.JoinKeys.{head-refusal, places-refusal, joined-table}
+use Rattle.entry.specs.Entry.{or-else, in-front, lent, rule, Deal-says}
+use Rattle.join_calls.specs.JoinKeys.{head-refusal, places-refusal, joined-table}
 use Rattle.text.specs.Text.{refused-line, table-text}
 
 -- "Above 65,536 bytes, its input is 7, its output 9, the joining program's input 12 and its table 9, each at its place in the order."

@@ -15,8 +15,8 @@ ghost use lib.Dec.{leb};
 ghost use lib.ListN.{length, take};
 ghost use Rattle.keys.specs.Keys.{head-in};
 ghost use Rattle.text.specs.Text.{table-text};
-ghost use Rattle.nosingginger.specs.Entry.{or-else, Put-says};
-ghost use Rattle.nosingginger.specs.JoinKeys.{head-refusal};
+ghost use Rattle.entry.specs.Entry.{or-else, Put-says};
+ghost use Rattle.join_calls.specs.JoinKeys.{head-refusal};
 ghost use Rattle.programs.specs.Programs.{Writes, Joins, joining-refusal, joined, most-bytes};
 
 // The number of an input that is longer than any: the first key's own, 10, 1 to 5 and 11, or else 12.

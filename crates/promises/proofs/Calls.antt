@@ -17,10 +17,10 @@ use Rattle.keys.specs.Promise.{entry, Dealt-accepted}
 use Rattle.keys.specs.Answers.{head-numbers, key-checked}
 use Rattle.keys.proofs.Accepted.{passed}
 use Rattle.keys.proofs.Promise.{dealt-accepted, dealt-board, dealt-player}
-use Rattle.nosingginger.specs.Entry.{lent, rule, Deal-says, Open-one-says, Open-all-says, joined-shares, shares-refusal, Join-says, Expand-says}
-use Rattle.nosingginger.specs.JoinKeys.{Join-keys-says}
+use Rattle.entry.specs.Entry.{lent, rule, Deal-says, Open-one-says, Open-all-says, joined-shares, shares-refusal, Join-says, Expand-says}
+use Rattle.join_calls.specs.JoinKeys.{Join-keys-says}
 use Rattle.promises.specs.Calls.{key-part, Deals-open, Accepted-opens, Opens-agree, Joins-agree, Untouched, Refused-leaves, Answered-keeps}
-use Rattle.nosingginger.proofs.Putting.{room-there, answer-is, put, untouched, take-front, part-front}
+use Rattle.entry.proofs.Putting.{room-there, answer-is, put, untouched, take-front, part-front}
 use Rattle.promises.proofs.OpenedKey.{expansion, all-answered, one-answered, all-opened, one-opened, own-table-long, own-entry, own-entry-long, entry-fits}
 use Rattle.promises.proofs.JoinedKeys.{joined-says, part-fine, joined-word, joined-as-opened}
 use Rattle.promises.proofs.DealtCalls.{past, left, part-is, part-opens, parts-join, parts-joined, keys-past, square-joined}

@@ -14,9 +14,9 @@ use Rattle.grid.specs.Joining.{over}
 use Rattle.keys.specs.Keys.{key-refusal, head-in, key-long}
 use Rattle.keys.specs.Answers.{key-checked}
 use Rattle.keys.specs.Promise.{entry, point-table}
-use Rattle.nosingginger.specs.Entry.{Deal-says, Long-says, Open-one-says, Open-all-says, Join-says, Expand-says, in-front}
-use Rattle.nosingginger.specs.JoinKeys.{Join-keys-says}
-use Rattle.nosingginger.specs.declared.Answer.{Answer}
+use Rattle.entry.specs.Entry.{Deal-says, Long-says, Open-one-says, Open-all-says, Join-says, Expand-says, in-front}
+use Rattle.join_calls.specs.JoinKeys.{Join-keys-says}
+use Rattle.entry.specs.declared.Answer.{Answer}
 
 -- A DEAL THAT WAS ANSWERED BY 0: Deal was lent bytes and left `keys-now` in its output; Key length was asked for the same board
 pub record Dealt (p n m w point : ℕ) (value : List ℕ) (long : Answer) (keys-now : List ℕ) : Type 0 where

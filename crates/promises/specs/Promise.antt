@@ -8,7 +8,7 @@ unfoldable pub use Rattle.grid.specs.Hiding.{Tells-nothing, Just-one-dealing, N
 unfoldable pub use Rattle.grid.specs.Moving.{Moved-is-named, Moving-finds}
 unfoldable pub use Rattle.keys.specs.Promise.{Rule-good, Header-reads, Reads-parts, Only-writing, Same-parts, Dealt-accepted, Keys-long, Keys-apart, Table-long, Opens-alone, Keys-open, Tables-join, Full-tables-join}
 use Rattle.keys.specs.Document03
-use Rattle.nosingginger.specs.Entry.{rule}
+use Rattle.entry.specs.Entry.{rule}
 unfoldable pub use Rattle.promises.specs.Calls.{Deals-open, Accepted-opens, Opens-agree, Joins-agree}
 pub use Rattle.promises.specs.Calls.{Refused-leaves, Answered-keeps}
 unfoldable pub use Rattle.promises.specs.Marked.{Marked-deals}

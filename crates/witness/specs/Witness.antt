@@ -9,7 +9,7 @@ use Rattle.grid.specs.Grid.{board}
 use Rattle.grid.specs.Joining.{over}
 use Rattle.keys.specs.Keys.{key-refusal, head-in, key-long, deal-refusal, table}
 use Rattle.keys.specs.Promise.{entry, point-table}
-use Rattle.nosingginger.specs.Entry.{or-else, Put-says, lent, key-rule}
+use Rattle.entry.specs.Entry.{or-else, Put-says, lent, key-rule}
 use Rattle.promises.specs.Calls.{key-part}
 
 -- keys one after another, each accepted and with a table of this size

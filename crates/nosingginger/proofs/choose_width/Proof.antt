@@ -1,7 +1,7 @@
 -- `nosingginger::choose_width` meets its contract. Assumes nothing.
 use mathlib.Core.Path.{_∙_}
 use Rattle.grid.proofs.Refusing.{In, in-range, passed, failed}
-use Rattle.nosingginger.proofs.Answering.{width-refused-1, width-refused-2, width-given}
+use Rattle.entry.proofs.Answering.{width-refused-1, width-refused-2, width-given}
 use borrow.Author.Needs.{needs}
 use Rattle.nosingginger.proofs.choose_width.Statement.{statement}
 use Rattle.nosingginger.proofs.choose_width.Tie as tie

@@ -1,5 +1,5 @@
 -- `nosingginger::expand_seed` meets its contract. Assumes nothing.
-use Rattle.nosingginger.proofs.Answering.{expand-seed-refused, expand-room-refused, expanded}
+use Rattle.entry.proofs.Answering.{expand-seed-refused, expand-room-refused, expanded}
 use borrow.Author.Needs.{needs}
 use Rattle.nosingginger.proofs.expand_seed.Statement.{statement}
 use Rattle.nosingginger.proofs.expand_seed.Tie as tie

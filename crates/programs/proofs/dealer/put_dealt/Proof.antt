@@ -9,7 +9,7 @@ use Rattle.grid.specs.Grid.{board}
 use Rattle.grid.specs.Code.{board-of}
 use Rattle.xor.proofs.Laws.{good-by-entries}
 use Rattle.keys.specs.Keys.{key-long}
-use Rattle.nosingginger.proofs.Sizes.{keys-most}
+use Rattle.entry.proofs.Sizes.{keys-most}
 use Rattle.programs.proofs.Dealings.{room-within, dealt-written, dealt-short, dealt-refused}
 use borrow.Author.Needs.{needs}
 use Rattle.programs.proofs.dealer.put_dealt.Statement.{statement}

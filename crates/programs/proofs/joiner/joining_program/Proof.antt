@@ -4,7 +4,7 @@ use Prim.Native.Nat.{_-_}
 use native.Mathlib.Omega.{arith}
 use denote.Ref.{now}
 use Rattle.xor.proofs.Laws.{good-by-entries}
-use Rattle.nosingginger.proofs.Putting.{answer-is}
+use Rattle.entry.proofs.Putting.{answer-is}
 use Rattle.programs.proofs.Joinings.{joins-none, joins-refused, joins-accepted}
 use borrow.Author.Needs.{needs}
 use Rattle.programs.proofs.joiner.joining_program.Statement.{statement}

@@ -2,7 +2,7 @@
 use mathlib.Core.Path.{sym, _∙_}
 use native.Mathlib.Omega.{arith}
 use Rattle.grid.specs.Grid.{board}
-use Rattle.nosingginger.proofs.InTurn.{numbers-board, numbers-player, numbers-none}
+use Rattle.join_calls.proofs.InTurn.{numbers-board, numbers-player, numbers-none}
 use Rattle.programs.proofs.Joinings.{long-number, long-own, long-length}
 use borrow.Author.Needs.{needs}
 use Rattle.programs.proofs.joiner.long_refusal.Statement.{statement}

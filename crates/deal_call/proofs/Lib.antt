@@ -1,0 +1,2 @@
+-- What Deal asks of what it is lent. Assumes nothing.
+pub mod Lending

@@ -1,0 +1,4 @@
+-- The laws that the operations' proofs cite. Assumes nothing.
+pub mod Answering
+pub mod Putting
+pub mod Sizes

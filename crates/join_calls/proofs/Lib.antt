@@ -1,0 +1,4 @@
+-- Keys and shares side by side. Assumes nothing.
+pub mod Joining
+pub mod InTurn
+pub mod JoinedTables

@@ -1,0 +1,70 @@
+// Join shares and Join keys, behind their refusals. Assumes nothing.
+use entry::refusals::ACCEPTED;
+use entry::refusals::REFUSED_NUMBER;
+use grid::board::Board;
+use keys::length::key_length;
+use keys::reader::Header;
+use keys::reader::Heading;
+use keys::reader::header_in;
+ghost use mathlib.Core.Path.{_≡_};
+ghost use Prim.Native.Nat.{_*_};
+ghost use lib.ListN.{length};
+ghost use Rattle.grid.specs.Grid.{board-refusal};
+ghost use Rattle.grid.specs.Code.{board-of};
+ghost use Rattle.keys.specs.Keys.{key-long};
+ghost use Rattle.entry.specs.Entry.{Join-says};
+ghost use Rattle.join_calls.specs.JoinKeys.{places-refusal, joined-table, Join-keys-says};
+
+mod places;
+mod shares;
+
+use places::keys_refusal;
+
+// JOIN SHARES: 1, 4, 7, 9; writes the XOR of the shares of all players at one square.
+pub fn join_shares(players: u32, value_bytes: u32, shares: &[u8], output: &mut [u8]) -> u32
+    ensures { λ r. ⌜ Join-says players «value_bytes» (now (shares .entry)) r (now (output .entry)) (now (output .exit)) ⌝ }
+{
+    let refusal = shares::shares_refusal(players, value_bytes, shares.len(), output.len());
+    if refusal != ACCEPTED {
+        return refusal;
+    }
+    let share = value_bytes as usize;
+    shares::joined(players as usize, shares, &mut output[..share]);
+    ACCEPTED
+}
+
+// Fills `out` with the XOR of the tables of all keys, each accepted at its place.
+fn joined_tables(board: Board, keys: &[u8], out: &mut [u8])
+    requires { ⌜ (board-refusal (board-of board) ≡ 0) × (length (now keys) ≡ board .players * key-long (board-of board))
+        × (places-refusal (board .players) 0 (board-of board) (now keys) ≡ 0) × (length (now out) ≡ board .positions * board .«value_bytes») ⌝ }
+    ensures { λ r. ⌜ now (out .exit) ≡ joined-table (board .players) (board-of board) (now (keys .entry)) ⌝ }
+{
+    writer::clear(out);
+    let long = key_length(board);
+    let mut player = board.players;
+    let mut end = keys.len();
+    while 0 < player {
+        player -= 1;
+        let start = end - long;
+        let header = Header { board, player };
+        opening::add_rows(&keys[start..end], header, out);
+        end = start;
+    }
+}
+
+// JOIN KEYS: for the first key 10, 1 to 5, 11; 12; then for each key in turn its 10, 1 to 5, 11, 15, 13; last 9. Writes the XOR of all tables.
+pub fn join_keys(keys: &[u8], output: &mut [u8]) -> u32
+    ensures { λ r. ⌜ Join-keys-says (now (keys .entry)) r (now (output .entry)) (now (output .exit)) ⌝ }
+{
+    let Heading::Whole(header, _) = header_in(keys) else {
+        return REFUSED_NUMBER;
+    };
+    let refusal = keys_refusal(header, keys, output.len());
+    if refusal != ACCEPTED {
+        return refusal;
+    }
+    let board = header.board;
+    let table = (board.positions * board.value_bytes) as usize;
+    joined_tables(board, keys, &mut output[..table]);
+    ACCEPTED
+}

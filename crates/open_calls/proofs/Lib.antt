@@ -1,0 +1,2 @@
+-- What the openings answer. Assumes nothing.
+pub mod Squares

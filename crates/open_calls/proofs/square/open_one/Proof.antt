@@ -1,0 +1,67 @@
+-- `open_calls::square::open_one` meets its contract. Assumes nothing.
+use mathlib.Core.Path.{sym, ap, _∙_}
+use denote.Ref.{now}
+use Rattle.keys.specs.Answers.{checked-as}
+use Rattle.keys.proofs.Holding.{Accepted-as, accepted-says}
+use Rattle.open_calls.proofs.Squares.{with-header, one-key-refused, one-position-refused, one-room-refused, one-opened}
+use borrow.Author.Needs.{needs}
+use Rattle.open_calls.proofs.square.open_one.Statement.{statement}
+use Rattle.open_calls.proofs.square.open_one.Tie as tie
+
+-- the key is accepted, with these numbers
+accepted : (c : tie.After-known-told2) → Accepted-as (now (c .before .before .before .before .before .before .args .key)) (c .before .header .given .0 .0)
+accepted c = accepted-says _ _ (sym (ap checked-as (c .before .header .given .1)) ∙ c .before .before .before .check-key .ensures)
+
+check-key-requires : tie.Need-check-key-requires
+check-key-requires c κs = search needs
+
+enum-known-number : tie.Need-enum-known-number
+enum-known-number c = search needs
+
+returns : tie.Need-returns
+returns c = one-key-refused _ _ _ _ (sym (ap checked-as (c .before .number .given .1)) ∙ c .before .before .before .check-key .ensures)
+
+enum-known-header : tie.Need-enum-known-header
+enum-known-header c = search needs
+
+cast-share : tie.Need-cast-share
+cast-share c = search needs
+
+returns-2 : tie.Need-returns-2
+returns-2 c = one-position-refused _ _ _ _ (accepted (c .before .before .before)) (c .if1 .taken)
+
+returns-3 : tie.Need-returns-3
+returns-3 c =
+    let inside = c .before in
+    one-room-refused _ _ _ _ (accepted (inside .before .before .before)) (inside .if1 .left) (c .if2 .taken)
+
+open-square-requires : tie.Need-open-square-requires
+open-square-requires c κs =
+    let room = c .before in
+    let inside = room .before in
+    let key = accepted (inside .before .before .before) in (with-header _ _ key, inside .if1 .left, room .if2 .left)
+
+same-length : tie.Need-same-length
+same-length c = search needs
+
+returns-4 : tie.Need-returns-4
+returns-4 c =
+    let done = c .before .before in
+    let room = done .before .before in
+    let inside = room .before in
+    one-opened _ _ _ _ (accepted (inside .before .before .before)) (inside .if1 .left) _ (room .if2 .left) (done .open-square .ensures)
+
+pub open-one-spec : {M : Type 1} → statement M
+open-one-spec =
+    tie.close
+    (tie.spec
+    check-key-requires
+    enum-known-number
+    returns
+    enum-known-header
+    cast-share
+    returns-2
+    returns-3
+    open-square-requires
+    same-length
+    returns-4)
