@@ -11,7 +11,7 @@
 #include <time.h>
 
 enum { SEED = 32, MOST_ROW = 4096, GUARD = 64 };
-enum { PASSES = 6, MOST_TASKS = 9, MOST_ROUNDS = 4000, LEAST_ROUNDS = 10 }; /* rounds of a race in each pass */
+enum { PASSES = 8, MOST_TASKS = 9, MOST_ROUNDS = 4000, LEAST_ROUNDS = 10 }; /* rounds of a race in each pass */
 
 static const double TURN = 20e-6; /* seconds that a contender's turn takes about, if one call is not longer */
 static const double RACE = 0.3;   /* seconds that a race takes about in each pass */
