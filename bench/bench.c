@@ -10,7 +10,7 @@
 #include <string.h>
 #include <time.h>
 
-enum { SEED = 32, MOST_ROW = 4096, GUARD = 64 };
+enum { SEED = NSG_SEED_BYTES, MOST_ROW = NSG_MOST_EXPANDED_BYTES, GUARD = 64 };
 enum { PASSES = 8, MOST_TASKS = 9, MOST_ROUNDS = 4000, LEAST_ROUNDS = 10 }; /* rounds of a race in each pass */
 
 static const double TURN = 20e-6; /* seconds that a contender's turn takes about, if one call is not longer */
@@ -37,6 +37,12 @@ static uint32_t bearssl_expand(const uint8_t *seed, uint64_t seed_length, uint8_
     (void)seed_length;
     br_chacha20_ct_run(seed, nonce, 0, out, length);
     return 0;
+}
+
+static void fail(const char *what, const char *who, const char *why)
+{
+    fprintf(stderr, "bench: %s by %s: %s\n", what, who, why);
+    exit(1);
 }
 
 /* ---- matches: a board, what is lent to Deal, and the keys */
@@ -87,28 +93,21 @@ static void draw_array(uint32_t players, int odd, uint8_t *array)
         }
 }
 
-static uint64_t header_length(const struct match *m)
-{
-    uint32_t numbers[] = {m->positions, m->width};
-    uint64_t length = 3;
-    for (int i = 0; i < 2; i++)
-        length += numbers[i] < 128 ? 1 : numbers[i] < 16384 ? 2 : 3;
-    return length;
-}
-
 static struct match drawn_match(uint32_t players, uint32_t positions, uint32_t width, uint32_t value_bytes)
 {
     struct match m = {.players = players, .positions = positions, .width = width, .value_bytes = value_bytes};
-    uint64_t columns = 1u << (players - 1), grid_rows = (positions + width - 1) / width, row = (uint64_t)width * value_bytes;
+    uint32_t columns = NSG_COLUMNS(players), grid_rows = NSG_GRID_ROWS(positions, width), key_length;
+    if (nsg_key_length(players, positions, width, value_bytes, &key_length) != NSG_ACCEPTED)
+        fail("key length", "ours", "refused");
     m.point = (uint32_t)(drawn() % positions);
-    m.arrays_length = grid_rows * columns;
-    m.seeds_length = m.arrays_length * SEED;
-    m.words_length = (columns - 1) * row;
-    m.key_length = header_length(&m) + grid_rows * ((columns + 7) / 8 + 16 * columns) + columns * row;
+    m.arrays_length = NSG_ARRAYS_BYTES(players, positions, width);
+    m.seeds_length = NSG_SEEDS_BYTES(players, positions, width);
+    m.words_length = NSG_WORDS_BYTES(players, width, value_bytes);
+    m.table_length = NSG_TABLE_BYTES(positions, value_bytes);
+    m.key_length = key_length;
     m.keys_length = players * m.key_length;
-    m.table_length = (uint64_t)positions * value_bytes;
     m.arrays = bytes(m.arrays_length);
-    for (uint64_t g = 0; g < grid_rows; g++)
+    for (uint32_t g = 0; g < grid_rows; g++)
         draw_array(players, g == m.point / width, m.arrays + g * columns);
     m.seeds = drawn_bytes(m.seeds_length);
     m.words = drawn_bytes(m.words_length);
@@ -152,10 +151,10 @@ static uint32_t done(const struct task *t)
 
 static void same(const char *what, const char *who, uint32_t answer, const uint8_t *expected, const uint8_t *given, uint64_t length)
 {
-    if (answer == 0 && memcmp(expected, given, length) == 0)
-        return;
-    fprintf(stderr, "bench: %s by %s: %s\n", what, who, answer == 0 ? "bytes differ" : "refused");
-    exit(1);
+    if (answer != NSG_ACCEPTED)
+        fail(what, who, "refused");
+    if (memcmp(expected, given, length) != 0)
+        fail(what, who, "bytes differ");
 }
 
 /* All expansions of a row's lengths; bytes past the length stay. */
@@ -254,10 +253,10 @@ static int calls_of_turn(const struct task *t)
     return least >= TURN ? 1 : (int)(TURN / least);
 }
 
-/* Adds a task to a race. All tasks that are timed write to one place, so that none has a better one; the longest keys there are fit. */
+/* Adds a task to a race. All tasks that are timed write to one place, so that none has a better one. */
 static void enter(struct race *r, struct task task)
 {
-    static _Alignas(64) uint8_t out[1 << 21];
+    static _Alignas(64) uint8_t out[NSG_MOST_KEYS_BYTES];
     task.out = out;
     r->times[r->count] = bytes(PASSES * MOST_ROUNDS * sizeof(double));
     r->calls[r->count] = calls_of_turn(&task);
@@ -436,8 +435,7 @@ static void print_peer(void)
 /* ChaCha20 blocks that Open all takes by the scheme: each held seed, half of the columns in each grid row, is expanded once. */
 static double blocks(const struct match *m)
 {
-    uint64_t grid_rows = (m->positions + m->width - 1) / m->width, row = (uint64_t)m->width * m->value_bytes;
-    return (double)(grid_rows * (1u << (m->players - 1)) / 2 * ((row + 63) / 64));
+    return NSG_GRID_ROWS(m->positions, m->width) * (NSG_COLUMNS(m->players) / 2) * ((m->width * m->value_bytes + 63) / 64);
 }
 
 /* What Open all takes on each board, and that over what it takes on the board before. */

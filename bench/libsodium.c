@@ -6,7 +6,7 @@ static const uint8_t nonce[12];
 
 uint32_t libsodium_expand(const uint8_t *seed, uint64_t seed_length, uint8_t *out, uint64_t length)
 {
-    if (seed_length != 32 || length > 4096)
+    if (seed_length != NSG_SEED_BYTES || length > NSG_MOST_EXPANDED_BYTES)
         return 1;
     crypto_stream_chacha20_ietf(out, length, nonce, seed);
     return 0;

@@ -54,7 +54,7 @@ static void block(uint32_t s[16], uint8_t *out)
 uint32_t plain_expand(const uint8_t *seed, uint64_t seed_length, uint8_t *out, uint64_t length)
 {
     uint32_t s[16];
-    if (seed_length != 32 || length > 4096)
+    if (seed_length != NSG_SEED_BYTES || length > NSG_MOST_EXPANDED_BYTES)
         return 1;
     open_state(seed, s);
     for (; length >= 64; length -= 64, out += 64)

@@ -8,7 +8,7 @@
 #define NAMED(a, b) JOINED(a, b)
 #define OF(name) NAMED(PEER, name)
 
-enum { SEED = 32, MOST_ROW = 4096 };
+enum { SEED = NSG_SEED_BYTES, MOST_ROW = NSG_MOST_EXPANDED_BYTES };
 
 struct board {
     uint32_t players, player, positions, width, value_bytes;
@@ -24,18 +24,20 @@ static void xor_into(uint8_t *restrict out, const uint8_t *restrict in, size_t l
 /* Works the sizes out of the five numbers; 0 where there is no such board. */
 static int sized(struct board *b)
 {
-    if (b->players < 2 || b->players > 6 || b->player >= b->players || b->positions < 1 || b->positions > 65536)
+    if (b->players < NSG_LEAST_PLAYERS || b->players > NSG_MOST_PLAYERS || b->player >= b->players)
         return 0;
-    if (b->width < 1 || b->width > 256 || b->value_bytes < 1 || b->value_bytes > 16)
+    if (b->positions < 1 || b->positions > NSG_MOST_POSITIONS || b->width < 1 || b->width > NSG_MOST_WIDTH)
         return 0;
-    b->columns = (size_t)1 << (b->players - 1);
-    b->grid_rows = (b->positions + b->width - 1) / b->width;
+    if (b->value_bytes < 1 || b->value_bytes > NSG_MOST_VALUE_BYTES)
+        return 0;
+    b->columns = NSG_COLUMNS(b->players);
+    b->grid_rows = NSG_GRID_ROWS(b->positions, b->width);
     b->row_bytes = (size_t)b->width * b->value_bytes;
     b->mark_bytes = (b->columns + 7) / 8;
     b->stride = b->mark_bytes + b->columns / 2 * SEED;
     b->body_bytes = b->grid_rows * b->stride + b->columns * b->row_bytes;
     b->table_bytes = (size_t)b->positions * b->value_bytes;
-    return b->grid_rows <= 256;
+    return b->grid_rows <= NSG_MOST_GRID_ROWS;
 }
 
 /* Reads a header number in groups of seven bits; NULL where it is cut short, too long or not in its shortest form. */
