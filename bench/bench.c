@@ -1,0 +1,487 @@
+/* Times the library against its peers, side by side in one run. Every result that is timed is first compared byte for byte, and a difference
+   ends the run. Then contenders take turns, each with a few calls at a time; all races are run several times over, so that a bad moment of the
+   machine falls on all alike, and the best and the median time of a call are kept. Prints tables in Markdown. Usage: bench, with no words; see
+   ./run. */
+#include "contenders.h"
+#include <bearssl.h>
+#include <sodium.h>
+#include <stdio.h>
+#include <stdlib.h>
+#include <string.h>
+#include <time.h>
+
+enum { SEED = NSG_SEED_BYTES, MOST_ROW = NSG_MOST_EXPANDED_BYTES, GUARD = 64 };
+enum { PASSES = 8, MOST_TASKS = 9, MOST_ROUNDS = 4000, LEAST_ROUNDS = 10 }; /* rounds of a race in each pass */
+
+static const double TURN = 20e-6; /* seconds that a contender's turn takes about, if one call is not longer */
+static const double RACE = 0.3;   /* seconds that a race takes about in each pass */
+
+/* ---- the contenders */
+
+enum { OURS, PLAIN, LIBSODIUM, CONTENDERS };
+
+static const struct contender {
+    const char *name;
+    deal_call *deal;
+    one_slice_call *open_all, *join_keys, *expand;
+} contenders[CONTENDERS] = {
+    {"ours", nsg_deal, nsg_open_all, nsg_join_keys, nsg_expand},
+    {"plain C", plain_deal, plain_open_all, plain_join_keys, plain_expand},
+    {"libsodium", libsodium_deal, libsodium_open_all, libsodium_join_keys, libsodium_expand},
+};
+
+/* BearSSL XORs the key stream into the bytes that are there. */
+static uint32_t bearssl_expand(const uint8_t *seed, uint64_t seed_length, uint8_t *out, uint64_t length)
+{
+    static const uint8_t nonce[12];
+    (void)seed_length;
+    br_chacha20_ct_run(seed, nonce, 0, out, length);
+    return 0;
+}
+
+static void fail(const char *what, const char *who, const char *why)
+{
+    fprintf(stderr, "bench: %s by %s: %s\n", what, who, why);
+    exit(1);
+}
+
+/* ---- matches: a board, what is lent to Deal, and the keys */
+
+struct match {
+    uint32_t players, positions, width, value_bytes, point;
+    uint64_t arrays_length, seeds_length, words_length, key_length, keys_length, table_length;
+    uint8_t value[16], *arrays, *seeds, *words, *keys;
+};
+
+static void *bytes(uint64_t length)
+{
+    void *p = malloc(length);
+    if (p == NULL) {
+        fputs("bench: no memory\n", stderr);
+        exit(2);
+    }
+    return p;
+}
+
+/* The same bytes in every run. */
+static uint64_t drawn(void)
+{
+    static uint64_t state = 1;
+    uint64_t z = state += 0x9e3779b97f4a7c15;
+    z = (z ^ z >> 30) * 0xbf58476d1ce4e5b9;
+    z = (z ^ z >> 27) * 0x94d049bb133111eb;
+    return z ^ z >> 31;
+}
+
+static uint8_t *drawn_bytes(uint64_t length)
+{
+    uint8_t *p = bytes(length);
+    for (uint64_t i = 0; i < length; i++)
+        p[i] = (uint8_t)drawn();
+    return p;
+}
+
+/* Writes every column of the parity once, in an order that is drawn. */
+static void draw_array(uint32_t players, int odd, uint8_t *array)
+{
+    uint32_t count = 0;
+    for (uint32_t column = 0; column < 1u << players; column++)
+        if ((__builtin_popcount(column) & 1) == odd) {
+            uint32_t place = (uint32_t)(drawn() % (count + 1));
+            array[count++] = array[place];
+            array[place] = (uint8_t)column;
+        }
+}
+
+static struct match drawn_match(uint32_t players, uint32_t positions, uint32_t width, uint32_t value_bytes)
+{
+    struct match m = {.players = players, .positions = positions, .width = width, .value_bytes = value_bytes};
+    uint32_t columns = NSG_COLUMNS(players), grid_rows = NSG_GRID_ROWS(positions, width), key_length;
+    if (nsg_key_length(players, positions, width, value_bytes, &key_length) != NSG_ACCEPTED)
+        fail("key length", "ours", "refused");
+    m.point = (uint32_t)(drawn() % positions);
+    m.arrays_length = NSG_ARRAYS_BYTES(players, positions, width);
+    m.seeds_length = NSG_SEEDS_BYTES(players, positions, width);
+    m.words_length = NSG_WORDS_BYTES(players, width, value_bytes);
+    m.table_length = NSG_TABLE_BYTES(positions, value_bytes);
+    m.key_length = key_length;
+    m.keys_length = players * m.key_length;
+    m.arrays = bytes(m.arrays_length);
+    for (uint32_t g = 0; g < grid_rows; g++)
+        draw_array(players, g == m.point / width, m.arrays + g * columns);
+    m.seeds = drawn_bytes(m.seeds_length);
+    m.words = drawn_bytes(m.words_length);
+    for (int i = 0; i < 16; i++)
+        m.value[i] = (uint8_t)(drawn() | 1);
+    m.keys = bytes(m.keys_length + GUARD);
+    return m;
+}
+
+/* ---- tasks: one call of a contender */
+
+enum work { EXPAND, OPEN_ALL, DEAL, JOIN_KEYS };
+
+struct task {
+    enum work work;
+    const struct contender *by;
+    const struct match *match;
+    one_slice_call *expand; /* for EXPAND */
+    uint64_t length;        /* for EXPAND */
+    uint8_t *out;           /* has room for what the task writes */
+};
+
+static uint32_t done(const struct task *t)
+{
+    static const uint8_t seed[SEED] = {1, 2, 3};
+    const struct match *m = t->match;
+    switch (t->work) {
+    case EXPAND:
+        return t->expand(seed, SEED, t->out, t->length);
+    case OPEN_ALL:
+        return t->by->open_all(m->keys, m->key_length, t->out, m->table_length);
+    case JOIN_KEYS:
+        return t->by->join_keys(m->keys, m->keys_length, t->out, m->table_length);
+    default:
+        return t->by->deal(m->players, m->positions, m->width, m->value_bytes, m->point, m->value, m->value_bytes, m->arrays,
+                           m->arrays_length, m->seeds, m->seeds_length, m->words, m->words_length, t->out, m->keys_length);
+    }
+}
+
+/* ---- bytes, before any time */
+
+static void same(const char *what, const char *who, uint32_t answer, const uint8_t *expected, const uint8_t *given, uint64_t length)
+{
+    if (answer != NSG_ACCEPTED)
+        fail(what, who, "refused");
+    if (memcmp(expected, given, length) != 0)
+        fail(what, who, "bytes differ");
+}
+
+/* All expansions of a row's lengths; bytes past the length stay. */
+static void compare_expansions(void)
+{
+    uint8_t *seed = drawn_bytes(SEED), *expected = bytes(MOST_ROW), *given = bytes(MOST_ROW);
+    for (uint64_t length = 0; length <= MOST_ROW; length++) {
+        memset(expected, 0xAA, MOST_ROW);
+        uint32_t answer = nsg_expand(seed, SEED, expected, length);
+        same("expand", "ours", answer, expected, expected, 0);
+        for (int i = PLAIN; i < CONTENDERS; i++) {
+            memset(given, 0xAA, MOST_ROW);
+            answer = contenders[i].expand(seed, SEED, given, length);
+            same("expand", contenders[i].name, answer, expected, given, MOST_ROW);
+        }
+        memset(given, 0xAA, MOST_ROW);
+        memset(given, 0, length);
+        answer = bearssl_expand(seed, SEED, given, length);
+        same("expand", "BearSSL", answer, expected, given, MOST_ROW);
+    }
+    free(seed);
+    free(expected);
+    free(given);
+}
+
+/* All contenders deal the same keys, open each of them as the same table, and join them to the piece alone. The match keeps its keys. */
+static void compare_match(struct match *m)
+{
+    uint64_t keys = m->keys_length + GUARD, table = m->table_length + GUARD;
+    uint8_t *dealt = bytes(keys), *joined = bytes(table), *opened = bytes(table), *given = bytes(table);
+    memset(m->keys, 0xAA, keys);
+    for (int i = 0; i < CONTENDERS; i++) {
+        struct task t = {.work = DEAL, .by = &contenders[i], .match = m, .out = i == OURS ? m->keys : dealt};
+        memset(t.out, 0xAA, keys);
+        uint32_t answer = done(&t);
+        same("deal", contenders[i].name, answer, m->keys, t.out, keys);
+    }
+    memset(joined, 0, table);
+    memset(joined + m->table_length, 0xAA, GUARD);
+    memcpy(joined + (uint64_t)m->point * m->value_bytes, m->value, m->value_bytes);
+    for (int i = 0; i < CONTENDERS; i++) {
+        memset(given, 0xAA, table);
+        struct task t = {.work = JOIN_KEYS, .by = &contenders[i], .match = m, .out = given};
+        uint32_t answer = done(&t);
+        same("join keys", contenders[i].name, answer, joined, given, table);
+    }
+    for (uint32_t player = 0; player < m->players; player++)
+        for (int i = 0; i < CONTENDERS; i++) {
+            uint8_t *out = i == OURS ? opened : given;
+            memset(out, 0xAA, table);
+            uint32_t answer = contenders[i].open_all(m->keys + player * m->key_length, m->key_length, out, m->table_length);
+            same("open all", contenders[i].name, answer, opened, out, table);
+        }
+    free(dealt);
+    free(joined);
+    free(opened);
+    free(given);
+}
+
+/* ---- races: tasks that take turns */
+
+struct timing {
+    double best, median; /* nanoseconds of a call */
+};
+
+struct race {
+    int count, calls[MOST_TASKS], rounds;
+    struct task tasks[MOST_TASKS];
+    double *times[MOST_TASKS]; /* seconds of a call, round by round */
+    struct timing timings[MOST_TASKS];
+};
+
+static double seconds(void)
+{
+    struct timespec t;
+    clock_gettime(CLOCK_MONOTONIC, &t);
+    return (double)t.tv_sec + 1e-9 * (double)t.tv_nsec;
+}
+
+static double turn(const struct task *t, int calls)
+{
+    double began = seconds();
+    for (int i = 0; i < calls; i++)
+        done(t);
+    return (seconds() - began) / calls;
+}
+
+/* How many calls of the task fill a turn. */
+static int calls_of_turn(const struct task *t)
+{
+    double least = 1;
+    for (int i = 0; i < 20; i++) {
+        double once = turn(t, 1);
+        least = once < least ? once : least;
+    }
+    return least >= TURN ? 1 : (int)(TURN / least);
+}
+
+/* Adds a task to a race. All tasks that are timed write to one place, so that none has a better one. */
+static void enter(struct race *r, struct task task)
+{
+    static _Alignas(64) uint8_t out[NSG_MOST_KEYS_BYTES];
+    task.out = out;
+    r->times[r->count] = bytes(PASSES * MOST_ROUNDS * sizeof(double));
+    r->calls[r->count] = calls_of_turn(&task);
+    r->tasks[r->count++] = task;
+}
+
+/* One pass: the tasks take turns, and who begins changes from round to round. */
+static void run(struct race *r)
+{
+    double end = seconds() + RACE;
+    for (int round = 0; round < MOST_ROUNDS && (round < LEAST_ROUNDS || seconds() < end); round++, r->rounds++)
+        for (int i = 0; i < r->count; i++) {
+            int k = (i + round) % r->count;
+            r->times[k][r->rounds] = turn(&r->tasks[k], r->calls[k]);
+        }
+}
+
+static int order(const void *a, const void *b)
+{
+    double x = *(const double *)a, y = *(const double *)b;
+    return (x > y) - (x < y);
+}
+
+static void finish(struct race *r)
+{
+    for (int i = 0; i < r->count; i++) {
+        qsort(r->times[i], (size_t)r->rounds, sizeof(double), order);
+        r->timings[i].best = r->times[i][0] * 1e9;
+        r->timings[i].median = r->times[i][r->rounds / 2] * 1e9;
+        free(r->times[i]);
+    }
+}
+
+/* ---- what is raced */
+
+struct limits {
+    double plain, libsodium; /* 0: none is asked */
+};
+
+static const struct {
+    const char *name;
+    uint64_t length;
+    struct limits limits;
+} expansions[] = {
+    {"64 bytes", 64, {1.10, 0}},
+    {"256 bytes", 256, {0.60, 0}},
+    {"4,096 bytes", 4096, {0.50, 2.20}},
+};
+enum { EXPANSIONS = sizeof expansions / sizeof expansions[0] };
+
+static const struct {
+    const char *name;
+    uint32_t players, positions, width, value_bytes;
+    struct limits open_all, deal;
+} boards[] = {
+    {"p 4, N 72, μ 24, w 1", 4, 72, 24, 1, {0.65, 0.80}, {0.80, 0}},
+    {"p 6, N 72, μ 48, w 1", 6, 72, 48, 1, {0.65, 0.80}, {0.80, 0}},
+    {"p 2, N 256, μ 256, w 16", 2, 256, 256, 16, {0.55, 0}, {0.80, 0}},
+    {"p 3, N 65,536, μ 256, w 1", 3, 65536, 256, 1, {0.60, 0}, {0.80, 0}},
+    {"p 6, N 4,096, μ 256, w 16", 6, 4096, 256, 16, {0.55, 0}, {0.80, 0}},
+};
+enum { BOARDS = sizeof boards / sizeof boards[0], JOINED_BOARD = 1 };
+
+/* Two families of three boards, of width 256 and values of one byte: N grows at one p, p grows at one N. */
+static const struct {
+    const char *name;
+    uint32_t players, positions;
+} families[2][3] = {
+    {{"p 3, N 4,096", 3, 4096}, {"p 3, N 16,384", 3, 16384}, {"p 3, N 65,536", 3, 65536}},
+    {{"p 2, N 4,096", 2, 4096}, {"p 4, N 4,096", 4, 4096}, {"p 6, N 4,096", 6, 4096}},
+};
+
+static struct match matches[BOARDS], growing[2][3];
+
+/* All races. BearSSL runs in the races of expansion too, and our Open all in the race of Join keys, each as the fourth. */
+static struct {
+    struct race expand[EXPANSIONS], open_all[BOARDS], deal[BOARDS], join_keys, growth[2];
+} races;
+enum { RACES = sizeof races / sizeof(struct race) };
+
+static void enter_all(struct race *r, enum work work, const struct match *m)
+{
+    for (int i = 0; i < CONTENDERS; i++)
+        enter(r, (struct task){.work = work, .by = &contenders[i], .match = m});
+}
+
+static void prepare(void)
+{
+    for (int k = 0; k < EXPANSIONS; k++)
+        for (int i = 0; i <= CONTENDERS; i++)
+            enter(&races.expand[k], (struct task){.work = EXPAND,
+                                                  .expand = i < CONTENDERS ? contenders[i].expand : bearssl_expand,
+                                                  .length = expansions[k].length});
+    for (int k = 0; k < BOARDS; k++) {
+        matches[k] = drawn_match(boards[k].players, boards[k].positions, boards[k].width, boards[k].value_bytes);
+        compare_match(&matches[k]);
+        enter_all(&races.open_all[k], OPEN_ALL, &matches[k]);
+        enter_all(&races.deal[k], DEAL, &matches[k]);
+    }
+    enter_all(&races.join_keys, JOIN_KEYS, &matches[JOINED_BOARD]);
+    enter(&races.join_keys, (struct task){.work = OPEN_ALL, .by = &contenders[OURS], .match = &matches[JOINED_BOARD]});
+    for (int f = 0; f < 2; f++)
+        for (int k = 0; k < 3; k++) {
+            growing[f][k] = drawn_match(families[f][k].players, families[f][k].positions, 256, 1);
+            compare_match(&growing[f][k]);
+            enter_all(&races.growth[f], OPEN_ALL, &growing[f][k]);
+        }
+}
+
+/* ---- tables */
+
+/* How far the median lies above the best, the largest of the contenders, in percent. */
+static double spread(const struct timing *timings, int count)
+{
+    double most = 0;
+    for (int i = 0; i < count; i++) {
+        double each = 100 * (timings[i].median / timings[i].best - 1);
+        most = each > most ? each : most;
+    }
+    return most;
+}
+
+static void print_ratio(double ratio, double limit)
+{
+    if (limit == 0)
+        printf(" %.2f | |", ratio);
+    else
+        printf(ratio > limit ? " **%.2f** | %.2f |" : " %.2f | %.2f |", ratio, limit);
+}
+
+static void print_row(const char *work, const char *of, const struct race *r, struct limits limits)
+{
+    const struct timing *t = r->timings;
+    printf("| %s %s | %.0f | %.0f | %.0f |", work, of, t[OURS].best, t[PLAIN].best, t[LIBSODIUM].best);
+    print_ratio(t[OURS].best / t[PLAIN].best, limits.plain);
+    print_ratio(t[OURS].best / t[LIBSODIUM].best, limits.libsodium);
+    printf(" %.0f %% |\n", spread(t, CONTENDERS));
+}
+
+static void print_table(void)
+{
+    puts("## The table\n\n"
+         "| work | ours, ns | plain C, ns | libsodium, ns | ours / plain C | at most | ours / libsodium | at most | spread |\n"
+         "|---|---:|---:|---:|---:|---:|---:|---:|---:|");
+    for (int k = 0; k < EXPANSIONS; k++)
+        print_row("expand", expansions[k].name, &races.expand[k], expansions[k].limits);
+    for (int k = 0; k < BOARDS; k++)
+        print_row("open all,", boards[k].name, &races.open_all[k], boards[k].open_all);
+    for (int k = 0; k < BOARDS; k++)
+        print_row("deal,", boards[k].name, &races.deal[k], boards[k].deal);
+    print_row("join keys,", boards[JOINED_BOARD].name, &races.join_keys, (struct limits){0, 0});
+}
+
+static void print_join(void)
+{
+    const struct timing *join = &races.join_keys.timings[OURS], *open = &races.join_keys.timings[CONTENDERS];
+    puts("\n## Join keys against Open all\n\n"
+         "| board | join keys, ns | open all, ns | join keys / (p × open all) | at most |\n|---|---:|---:|---:|---:|");
+    printf("| %s | %.0f | %.0f |", boards[JOINED_BOARD].name, join->best, open->best);
+    print_ratio(join->best / (boards[JOINED_BOARD].players * open->best), 1.10);
+    puts("");
+}
+
+static void print_peer(void)
+{
+    puts("\n## The plain C peer against BearSSL\n\n"
+         "| work | plain C, ns | BearSSL, ns | plain C / BearSSL | at most |\n|---|---:|---:|---:|---:|");
+    for (int k = 0; k < EXPANSIONS; k++) {
+        const struct timing *plain = &races.expand[k].timings[PLAIN], *bearssl = &races.expand[k].timings[CONTENDERS];
+        printf("| expand %s | %.0f | %.0f |", expansions[k].name, plain->best, bearssl->best);
+        print_ratio(plain->best / bearssl->best, 1.00);
+        puts("");
+    }
+}
+
+/* ChaCha20 blocks that Open all takes by the scheme: each held seed, half of the columns in each grid row, is expanded once. */
+static double blocks(const struct match *m)
+{
+    return NSG_GRID_ROWS(m->positions, m->width) * (NSG_COLUMNS(m->players) / 2) * ((m->width * m->value_bytes + 63) / 64);
+}
+
+/* What Open all takes on each board, and that over what it takes on the board before. */
+static void print_growth(void)
+{
+    puts("\n## Growth of Open all\n\n"
+         "| board | blocks | ours, µs | plain C, µs | libsodium, µs | growth by the scheme | ours | plain C | libsodium | spread |\n"
+         "|---|---:|---:|---:|---:|---:|---:|---:|---:|---:|");
+    for (int f = 0; f < 2; f++)
+        for (int k = 0; k < 3; k++) {
+            const struct match *m = &growing[f][k];
+            const struct timing *t = &races.growth[f].timings[CONTENDERS * k];
+            printf("| %s, μ 256, w 1 | %.0f |", families[f][k].name, blocks(m));
+            for (int i = 0; i < CONTENDERS; i++)
+                printf(" %.1f |", t[i].best / 1000);
+            if (k == 0)
+                printf(" | | | |");
+            else {
+                printf(" %.2f |", blocks(m) / blocks(m - 1));
+                for (int i = 0; i < CONTENDERS; i++)
+                    printf(" %.2f |", t[i].best / t[i - CONTENDERS].best);
+            }
+            printf(" %.0f %% |\n", spread(t, CONTENDERS));
+        }
+}
+
+int main(void)
+{
+    struct race *all = (struct race *)&races;
+    double most = 0;
+    if (sodium_init() < 0)
+        return 2;
+    compare_expansions();
+    prepare();
+    for (int pass = 0; pass < PASSES; pass++)
+        for (int i = 0; i < RACES; i++)
+            run(&all[i]);
+    for (int i = 0; i < RACES; i++) {
+        finish(&all[i]);
+        double each = spread(all[i].timings, all[i].count);
+        most = each > most ? each : most;
+    }
+    print_table();
+    print_join();
+    print_peer();
+    print_growth();
+    printf("\nThe largest spread of this run is %.0f %%.\n", most);
+    return 0;
+}

@@ -1,0 +1,20 @@
+/* What bench.c times side by side: the library, and two peers that have the library's calls. A slice is a pointer and a length; 0 is
+   accepted. The peers are scheme.c over plain.c's ChaCha20, and scheme.c over libsodium's. */
+#include "../include/nosingginger.h"
+#include <stddef.h>
+
+typedef uint32_t deal_call(uint32_t players, uint32_t positions, uint32_t width, uint32_t value_bytes, uint32_t point,
+                           const uint8_t *value, uint64_t value_length, const uint8_t *arrays, uint64_t arrays_length,
+                           const uint8_t *seeds, uint64_t seeds_length, const uint8_t *words, uint64_t words_length, uint8_t *keys,
+                           uint64_t keys_length);
+/* Open all, Join keys and Expand: from a key, from all keys, from a seed. */
+typedef uint32_t one_slice_call(const uint8_t *in, uint64_t in_length, uint8_t *out, uint64_t out_length);
+
+deal_call plain_deal, libsodium_deal;
+one_slice_call plain_open_all, libsodium_open_all;
+one_slice_call plain_join_keys, libsodium_join_keys;
+one_slice_call plain_expand, libsodium_expand;
+
+/* What scheme.c is given by a cipher: XORs the first `length` bytes of a seed's key stream into `out`. */
+void plain_add_row(const uint8_t *seed, uint8_t *out, size_t length);
+void libsodium_add_row(const uint8_t *seed, uint8_t *out, size_t length);
