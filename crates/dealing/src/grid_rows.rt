@@ -37,8 +37,8 @@ fn mark_digit(array: &[u8], at: usize, player: u32) -> u8
     0
 }
 
-// The player's marks in eight columns from `from` on as one byte: the k-th of them is bit k.
-fn mark_byte(array: &[u8], from: usize, player: u32) -> u8
+// The player's marks in the columns from `from` on, eight at most, as one byte: the k-th of them is bit k.
+fn few_marks(array: &[u8], from: usize, player: u32) -> u8
     requires { ⌜ (player < 8) × (from ≤ 1000) ⌝ }
     ensures { λ r. ⌜ r ≡ packed-from 8 0 player (drop from (now (array .entry))) ⌝ }
 {
@@ -49,6 +49,34 @@ fn mark_byte(array: &[u8], from: usize, player: u32) -> u8
         byte = byte * 2 + mark_digit(array, from + place, player);
     }
     byte
+}
+
+// The player's marks in two columns, and in four, that are there: the same without asking at each.
+fn two_marks(array: &[u8], from: usize, player: u32) -> u8
+    requires { ⌜ (player < 8) × (from + 2 ≤ length (now array)) ⌝ }
+    ensures { λ r. ⌜ r ≡ packed-from 2 0 player (drop from (now (array .entry))) ⌝ }
+{
+    let first = (array[from] >> player) % 2;
+    let second = (array[from + 1] >> player) % 2;
+    second * 2 + first
+}
+
+fn four_marks(array: &[u8], from: usize, player: u32) -> u8
+    requires { ⌜ (player < 8) × (from + 4 ≤ length (now array)) ⌝ }
+    ensures { λ r. ⌜ r ≡ packed-from 4 0 player (drop from (now (array .entry))) ⌝ }
+{
+    two_marks(array, from, player) + 4 * two_marks(array, from + 2, player)
+}
+
+// The player's marks in eight columns from `from` on as one byte.
+fn mark_byte(array: &[u8], from: usize, player: u32) -> u8
+    requires { ⌜ (player < 8) × (from ≤ 1000) ⌝ }
+    ensures { λ r. ⌜ r ≡ packed-from 8 0 player (drop from (now (array .entry))) ⌝ }
+{
+    if from + 8 <= array.len() {
+        return four_marks(array, from, player) + 16 * four_marks(array, from + 4, player);
+    }
+    few_marks(array, from, player)
 }
 
 // Writes the player's marks in an array, packed into `count` bytes.
@@ -65,13 +93,24 @@ fn put_marks(out: &mut [u8], at: usize, player: u32, count: usize, array: &[u8])
     next
 }
 
+// A seed's bytes by themselves: read before any is written, so that they are moved at once.
+fn seed_bytes(seed: &[u8]) -> [u8; 32]
+    requires { ⌜ length (now seed) ≡ 32 ⌝ }
+    ensures { λ r. ⌜ r ≡ now (seed .entry) ⌝ }
+{
+    let mut bytes = [0u8; 32];
+    put(&mut bytes, 0, seed);
+    bytes
+}
+
 // Writes a seed where it is held, and nothing where it is not.
 fn put_if(out: &mut [u8], at: usize, held: bool, seed: &[u8]) -> usize
-    requires { ⌜ at + length (cond held (now seed) []) ≤ length (now out) ⌝ }
+    requires { ⌜ (length (now seed) ≡ 32) × (at + length (cond held (now seed) []) ≤ length (now out)) ⌝ }
     ensures { λ r. ⌜ Wrote at (cond held (now (seed .entry)) []) r (now (out .entry)) (now (out .exit)) ⌝ }
 {
     if held {
-        return put(out, at, seed);
+        let bytes = seed_bytes(seed);
+        return put(out, at, &bytes);
     }
     at
 }

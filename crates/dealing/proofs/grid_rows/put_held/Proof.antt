@@ -12,14 +12,10 @@ use Rattle.keys.specs.Keys.{held-seeds}
 use Rattle.writer.specs.Written.{Wrote}
 use Rattle.writer.proofs.Laws.{wrote-nothing}
 use borrow.Author.Needs.{needs}
-use Rattle.dealing.proofs.Cuts.{part-long}
+use Rattle.dealing.proofs.Cuts.{part-long, part-whole}
 use Rattle.dealing.proofs.RowBytes.{held-within, held-turn}
 use Rattle.dealing.proofs.grid_rows.put_held.Statement.{statement}
 use Rattle.dealing.proofs.grid_rows.put_held.Tie as tie
-use Rattle.dealing.proofs.grid_rows.put_held.Reads as reads
-use Rattle.dealing.proofs.grid_rows.put_held.Lts as lts
-use Rattle.dealing.proofs.grid_rows.marked.Reads as marked-reads
-use Rattle.dealing.proofs.grid_rows.put_if.Reads as put-if-reads
 
 -- the next seed has its room
 held-room : (column player at : ℕ) (held : Bool) {next : ℕ} (array seeds old : List ℕ) {between : List ℕ} → column < length array → 32 * length array ≤ length seeds →
@@ -65,8 +61,10 @@ put-if-requires : tie.Need-put-if-requires Inv-loop μ-loop
 put-if-requires c κs =
     let s = c .before .before .before .before .before .before .before .before .before in
     let a = s .args in
-    let l = c .before .before .before .before .before .loop in
-    held-room (l .column) (a .player) (a .at) (c .before .marked .result) (now (a .array)) (now (a .seeds)) (now (a .out)) (omega arith) (omega arith) (c .before .marked .ensures) (s .pre .2) (l .inv .1) (l .inv .2)
+    let l = c .before .before .before .before .before .loop in (
+      part-whole (32 * l .column) 32 (now (a .seeds)) (omega arith),
+      held-room (l .column) (a .player) (a .at) (c .before .marked .result) (now (a .array)) (now (a .seeds)) (now (a .out)) (omega arith) (omega arith) (c .before .marked .ensures) (s .pre .2) (l .inv .1) (l .inv .2),
+    )
 
 add-column : tie.Need-add-column Inv-loop μ-loop
 add-column c = omega arith
