@@ -1,0 +1,156 @@
+// Four blocks of ChaCha20 side by side, so that the compiler fills its vector registers: four counters of one seed, or four seeds at
+// counter 0. The four states stand in sixty-four words, word w of lane l at 4·w + l. A lane is taken out, goes through a double round as an
+// ordinary state and is put back, in a loop over the lanes that becomes one pass over vectors. Assumes nothing.
+ghost use mathlib.Core.Path.{_≡_};
+ghost use Prim.Native.Nat.{_+_, _*_, _^_, _<_};
+ghost use lib.ListN.{length, take, drop};
+ghost use Rattle.chacha20.specs.Expand.{double-round, rounds, opening, blocks};
+ghost use Rattle.lanes.specs.Lanes.{lane-of, Side-by-side, Put, lanes-bytes, lanes-blocks, first-blocks};
+
+// A lane's state.
+fn lane(states: &[u32], l: usize) -> [u32; 16]
+    requires { ⌜ (length (now states) ≡ 64) × (l < 4) ⌝ }
+    ensures { λ r. ⌜ r ≡ lane-of l (now (states .entry)) ⌝ }
+{
+    let mut words = [0u32; 16];
+    let mut w: usize = 0;
+    while w < 16 {
+        let place = 4 * w + l;
+        words[w] = states[place];
+        w += 1;
+    }
+    words
+}
+
+// Puts a state into a lane; the other lanes stay.
+fn put_lane(states: &mut [u32], l: usize, words: [u32; 16])
+    requires { ⌜ (length (now states) ≡ 64) × (l < 4) ⌝ }
+    ensures { λ r. ⌜ Put l words (now (states .entry)) (now (states .exit)) ⌝ }
+{
+    let mut w: usize = 0;
+    while w < 16 {
+        let place = 4 * w + l;
+        states[place] = words[w];
+        w += 1;
+    }
+}
+
+// A double round of one lane, by the table of chacha20. The scalar block has one of its own: each has one caller, in which the compiler
+// unfolds it.
+fn double_round(state: [u32; 16]) -> [u32; 16]
+    ensures { λ r. ⌜ r ≡ double-round state ⌝ }
+{
+    let table = chacha20::QUARTER_ROUNDS;
+    let first = chacha20::quarter_round(state, table[0]);
+    let second = chacha20::quarter_round(first, table[1]);
+    let third = chacha20::quarter_round(second, table[2]);
+    let fourth = chacha20::quarter_round(third, table[3]);
+    let fifth = chacha20::quarter_round(fourth, table[4]);
+    let sixth = chacha20::quarter_round(fifth, table[5]);
+    let seventh = chacha20::quarter_round(sixth, table[6]);
+    chacha20::quarter_round(seventh, table[7])
+}
+
+// A double round of each lane.
+fn double_rounds(states: &mut [u32])
+    requires { ⌜ length (now states) ≡ 64 ⌝ }
+    ensures { λ r. ⌜ Side-by-side (now (states .exit)) (λ l. double-round (lane-of l (now (states .entry)))) ⌝ }
+{
+    let mut l: usize = 0;
+    while l < 4 {
+        let before = lane(states, l);
+        let after = double_round(before);
+        put_lane(states, l, after);
+        l += 1;
+    }
+}
+
+// Twenty rounds of each lane.
+fn twenty_rounds(states: &mut [u32])
+    requires { ⌜ length (now states) ≡ 64 ⌝ }
+    ensures { λ r. ⌜ Side-by-side (now (states .exit)) (λ l. rounds 10 (lane-of l (now (states .entry)))) ⌝ }
+{
+    let mut done: usize = 0;
+    while done < 10 {
+        double_rounds(states);
+        done += 1;
+    }
+}
+
+// The lanes serialized, one after another.
+fn serialize(states: &[u32], out: &mut [u8])
+    requires { ⌜ (length (now states) ≡ 64) × (length (now out) ≡ 256) ⌝ }
+    ensures { λ r. ⌜ now (out .exit) ≡ lanes-bytes 4 (now (states .entry)) ⌝ }
+{
+    let mut l: usize = 0;
+    while l < 4 {
+        let from = 64 * l;
+        let to = from + 64;
+        let state = lane(states, l);
+        chacha20::serialize(state, &mut out[from..to]);
+        l += 1;
+    }
+}
+
+// The blocks of four lanes, one after another.
+fn four_blocks(initial: [u32; 64], out: &mut [u8])
+    requires { ⌜ length (now out) ≡ 256 ⌝ }
+    ensures { λ r. ⌜ now (out .exit) ≡ lanes-blocks 4 initial ⌝ }
+{
+    let mut states = initial;
+    twenty_rounds(&mut states);
+    chacha20::add_into(&mut states, &initial);
+    serialize(&states, out);
+}
+
+// Four counters of one seed.
+fn open_counters(seed: &[u8], counter: u32, states: &mut [u32])
+    requires { ⌜ (length (now seed) ≡ 32) × (counter + 4 < 2 ^ 32) × (length (now states) ≡ 64) ⌝ }
+    ensures { λ r. ⌜ Side-by-side (now (states .exit)) (λ l. opening (now (seed .entry)) (counter + l)) ⌝ }
+{
+    let nonce = [0u8; 12];
+    let mut next = counter;
+    let mut l: usize = 0;
+    while l < 4 {
+        let words = chacha20::initial_state(seed, next, &nonce);
+        put_lane(states, l, words);
+        next += 1;
+        l += 1;
+    }
+}
+
+// Four seeds at counter 0.
+fn open_seeds(seeds: &[u8], states: &mut [u32])
+    requires { ⌜ (length (now seeds) ≡ 128) × (length (now states) ≡ 64) ⌝ }
+    ensures { λ r. ⌜ Side-by-side (now (states .exit)) (λ l. opening (take 32 (drop (32 * l) (now (seeds .entry)))) 0) ⌝ }
+{
+    let nonce = [0u8; 12];
+    let mut l: usize = 0;
+    while l < 4 {
+        let from = 32 * l;
+        let to = from + 32;
+        let words = chacha20::initial_state(&seeds[from..to], 0, &nonce);
+        put_lane(states, l, words);
+        l += 1;
+    }
+}
+
+// Four blocks of one seed, from the block of `counter` on.
+pub fn four_counters(seed: &[u8], counter: u32, out: &mut [u8])
+    requires { ⌜ (length (now seed) ≡ 32) × (counter + 4 < 2 ^ 32) × (length (now out) ≡ 256) ⌝ }
+    ensures { λ r. ⌜ now (out .exit) ≡ blocks 4 counter (now (seed .entry)) ⌝ }
+{
+    let mut initial = [0u32; 64];
+    open_counters(seed, counter, &mut initial);
+    four_blocks(initial, out);
+}
+
+// The first blocks of four seeds that stand one after another.
+pub fn four_seeds(seeds: &[u8], out: &mut [u8])
+    requires { ⌜ (length (now seeds) ≡ 128) × (length (now out) ≡ 256) ⌝ }
+    ensures { λ r. ⌜ now (out .exit) ≡ first-blocks 4 (now (seeds .entry)) ⌝ }
+{
+    let mut initial = [0u32; 64];
+    open_seeds(seeds, &mut initial);
+    four_blocks(initial, out);
+}
