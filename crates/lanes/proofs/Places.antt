@@ -47,11 +47,11 @@ lane-of-sums l xs ys p q h = every-fourth-sums 16 l xs ys (p ∙ sym q) (omega a
 -- TAKING a lane out, word by word: the words before w are taken
 module _ (l w : ℕ) (words states : List ℕ) (long : length words ≡ 16) (so-far : (v p : ℕ) → v < w → p ≡ 4 * v + l → getD words v 0 ≡ getD states p 0) where
   -- one turn: the next word is taken
-  pub one-taken : w < 16 → (v p : ℕ) → v < w + 1 → p ≡ 4 * v + l → getD (set words w (getD states (4 * w + l) 0)) v 0 ≡ getD states p 0
-  one-taken h v p v< p-is =
-      let word = getD states (4 * w + l) 0 in
+  pub one-taken : (at : ℕ) → at ≡ 4 * w + l → w < 16 → (v p : ℕ) → v < w + 1 → p ≡ 4 * v + l → getD (set words w (getD states at 0)) v 0 ≡ getD states p 0
+  one-taken at at-is h v p v< p-is =
+      let word = getD states at 0 in
       ⊎-elim
-      (λ e. let place : 4 * w + l ≡ p = omega arith in rw e (getD-set-same words w word 0 (omega arith) ∙ ap (λ (n : ℕ). getD states n 0) place))
+      (λ e. let place : at ≡ p = omega arith in rw e (getD-set-same words w word 0 (omega arith) ∙ ap (λ (n : ℕ). getD states n 0) place))
       (λ lt. getD-set-other words w v word 0 (λ e. omega arith) ∙ so-far v p lt p-is)
       (eq-or-lt-of-le {n = v} {m = w} (omega arith))
 
@@ -75,26 +75,27 @@ none-put l words old h =
     record { long = h; done = λ v p v< p-is. let none : ⊥ = omega arith in absurd none; below = λ v m p m< p-is. refl; above = λ v m p l< m< p-is. refl }
 
 module _ (l w : ℕ) (words old new : List ℕ) (in-lanes : l < 4) (so-far : Putting l w words old new) where
-  next-done : w < 16 → (v p : ℕ) → v < w + 1 → p ≡ 4 * v + l → getD (set new (4 * w + l) (getD words w 0)) p 0 ≡ getD words v 0
-  next-done h v p v< p-is =
-      let word = getD words w 0 in
-      let long = so-far .long in
-      let room : 4 * w + l < length new = omega arith in
-      ⊎-elim
-      (λ e. let place : p ≡ 4 * w + l = omega arith in rw place (getD-set-same new (4 * w + l) word 0 room ∙ ap (λ (n : ℕ). getD words n 0) (sym e)))
-      (λ lt. getD-set-other new (4 * w + l) p word 0 (λ e. omega arith) ∙ so-far .done v p lt p-is)
-      (eq-or-lt-of-le {n = v} {m = w} (omega arith))
-
   -- one turn: the next word is put
-  pub one-put : w < 16 → Putting l (w + 1) words old (set new (4 * w + l) (getD words w 0))
-  one-put h =
-      let long = so-far .long in
-      record {
-        long = length-set new (4 * w + l) (getD words w 0) ∙ long;
-        done = next-done h;
-        below = λ v m p m< p-is. getD-set-other new (4 * w + l) p (getD words w 0) 0 (λ e. omega arith) ∙ so-far .below v m p m< p-is;
-        above = λ v m p l< m< p-is. getD-set-other new (4 * w + l) p (getD words w 0) 0 (λ e. omega arith) ∙ so-far .above v m p l< m< p-is;
-      }
+  module _ (at : ℕ) (at-is : at ≡ 4 * w + l) (h : w < 16) where
+    next-done : (v p : ℕ) → v < w + 1 → p ≡ 4 * v + l → getD (set new at (getD words w 0)) p 0 ≡ getD words v 0
+    next-done v p v< p-is =
+        let word = getD words w 0 in
+        let long = so-far .long in
+        let room : at < length new = omega arith in
+        ⊎-elim
+        (λ e. let place : p ≡ at = omega arith in rw place (getD-set-same new at word 0 room ∙ ap (λ (n : ℕ). getD words n 0) (sym e)))
+        (λ lt. getD-set-other new at p word 0 (λ e. omega arith) ∙ so-far .done v p lt p-is)
+        (eq-or-lt-of-le {n = v} {m = w} (omega arith))
+
+    pub one-put : Putting l (w + 1) words old (set new at (getD words w 0))
+    one-put =
+        let word = getD words w 0 in
+        record {
+          long = length-set new at word ∙ so-far .long;
+          done = next-done;
+          below = λ v m p m< p-is. getD-set-other new at p word 0 (λ e. omega arith) ∙ so-far .below v m p m< p-is;
+          above = λ v m p l< m< p-is. getD-set-other new at p word 0 (λ e. omega arith) ∙ so-far .above v m p l< m< p-is;
+        }
 
   -- after the last turn the lane is the state that was put
   pub all-put : 16 ≤ w → length words ≡ 16 → Put l words old new

@@ -29,8 +29,8 @@ fn put_lane(states: &mut [u32], l: usize, words: [u32; 16])
 {
     let mut w: usize = 0;
     while w < 16 {
-        let place = 4 * w + l;
-        states[place] = words[w];
+        let at = 4 * w + l;
+        states[at] = words[w];
         w += 1;
     }
 }

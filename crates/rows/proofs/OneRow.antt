@@ -48,8 +48,8 @@ pub record Xored (seed old out : List ℕ) (done counter : ℕ) : Type 0 where
   pub place : done < length old → done ≡ 64 * counter
   pub so-far : out ≡ take done (xors old (expand (length old) seed)) ++ drop done old
 
-pub none-xored : (seed old : List ℕ) → Xored seed old old 0 0
-none-xored seed old = record { within = omega arith; same = refl; place = λ h. refl; so-far = refl }
+pub none-xored : (seed old : List ℕ) (counter : ℕ) → counter ≡ 0 → Xored seed old old 0 counter
+none-xored seed old counter h = record { within = omega arith; same = refl; place = λ some. omega arith; so-far = refl }
 
 module _ (seed old out : List ℕ) (done counter : ℕ) (w : Xored seed old out done counter) where
   abbrev row : List ℕ
@@ -80,10 +80,10 @@ module _ (seed old out : List ℕ) (done counter : ℕ) (w : Xored seed old out 
       ∙ rw new-part (rw (sym (take-add done m (xors old row)), all))
 
   -- a turn of the loop: four blocks, or what is left of the row
-  pub next-four : (end : ℕ) (part : List ℕ) → 64 < length out - done → Next-end done (length out) end → length part ≡ length (midOf done (end - done) out) →
+  pub next-four : (end next : ℕ) (part : List ℕ) → next ≡ counter + 4 → 64 < length out - done → Next-end done (length out) end → length part ≡ length (midOf done (end - done) out) →
       part ≡ xors (midOf done (end - done) out) (take (length (midOf done (end - done) out)) (blocks 4 counter seed)) →
-      Xored seed old (putMid done (end - done) out part) end (counter + 4)
-  next-four end part room e long part-is =
+      Xored seed old (putMid done (end - done) out part) end next
+  next-four end next part next-is room e long part-is =
       let same = w .same in
       let behind = e .behind in
       let within = e .within in

@@ -91,12 +91,12 @@ fn xor_four(seeds: &[u8], out: &mut [u8])
 {
     let mut made = [0u8; 256];
     lanes::four_seeds(seeds, &mut made);
-    let mut seed: usize = 0;
-    while seed < 4 {
-        let from = BLOCK_BYTES * seed;
+    let mut lane: usize = 0;
+    while lane < 4 {
+        let from = BLOCK_BYTES * lane;
         let end = from + BLOCK_BYTES;
         xor_front(&made[from..end], out);
-        seed += 1;
+        lane += 1;
     }
 }
 

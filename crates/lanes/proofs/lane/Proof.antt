@@ -45,7 +45,7 @@ loop-again : tie.Need-loop-again Inv-loop μ-loop
 loop-again c =
     let l = c .before .before .loop in
     let a = c .before .before .before .args in
-    (omega arith, simp length-set (l .inv .1), one-taken (a .l) (l .w) (l .words) (now (a .states)) (l .inv .1) (l .inv .2) (omega arith))
+    (omega arith, simp length-set (l .inv .1), one-taken (a .l) (l .w) (l .words) (now (a .states)) (l .inv .1) (l .inv .2) _ (omega arith) (omega arith))
 
 returns : tie.Need-returns Inv-loop μ-loop
 returns c =

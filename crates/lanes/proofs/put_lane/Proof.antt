@@ -17,11 +17,11 @@ abbrev μ-loop : tie.MeasureT-loop
 loop-holds : tie.Need-loop-holds Inv-loop μ-loop
 loop-holds c = (omega arith, none-put _ _ _ (c .pre .0))
 
-mul-place : tie.Need-mul-place Inv-loop μ-loop
-mul-place c = omega arith
+mul-at : tie.Need-mul-at Inv-loop μ-loop
+mul-at c = omega arith
 
-add-place : tie.Need-add-place Inv-loop μ-loop
-add-place c = omega arith
+add-at : tie.Need-add-at Inv-loop μ-loop
+add-at c = omega arith
 
 mul-states : tie.Need-mul-states Inv-loop μ-loop
 mul-states c = omega arith
@@ -45,7 +45,7 @@ loop-again : tie.Need-loop-again Inv-loop μ-loop
 loop-again c =
     let l = c .before .loop in
     let a = c .before .before .args in
-    (omega arith, one-put (a .l) (l .w) (a .t3) (now (a .states)) (l .states) (c .before .before .pre .1) (l .inv .1) (omega arith))
+    (omega arith, one-put (a .l) (l .w) (a .t3) (now (a .states)) (l .states) (c .before .before .pre .1) (l .inv .1) _ (omega arith) (omega arith))
 
 same-length : tie.Need-same-length Inv-loop μ-loop
 same-length c = c .before .loop .inv .1 .long ∙ sym (c .before .before .pre .0)
@@ -63,8 +63,8 @@ put-lane-spec =
     Inv-loop
     μ-loop
     loop-holds
-    mul-place
-    add-place
+    mul-at
+    add-at
     mul-states
     array-read-states
     mul-states-2

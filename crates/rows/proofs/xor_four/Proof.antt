@@ -15,10 +15,10 @@ use Rattle.rows.proofs.xor_four.Statement.{statement}
 use Rattle.rows.proofs.xor_four.Tie as tie
 
 abbrev Inv-loop : tie.InvT-loop
-Inv-loop seeds out₀ made seed₀ out seed = (seed ≤ 4) × (length out ≡ length out₀) × (out ≡ xors out₀ (rows-joined seed (length out₀) seeds))
+Inv-loop seeds out₀ made lane₀ out lane = (lane ≤ 4) × (length out ≡ length out₀) × (out ≡ xors out₀ (rows-joined lane (length out₀) seeds))
 
 abbrev μ-loop : tie.MeasureT-loop
-μ-loop seeds out₀ made seed₀ out seed = 4 - seed
+μ-loop seeds out₀ made lane₀ out lane = 4 - lane
 
 slice-aggregate-four-seeds : tie.Need-slice-aggregate-four-seeds Inv-loop μ-loop
 slice-aggregate-four-seeds c = search needs
@@ -50,10 +50,10 @@ part-xor-front-end c = omega arith
 xor-front-requires : tie.Need-xor-front-requires Inv-loop μ-loop
 xor-front-requires c κs =
     let l = c .before .before .before .before .loop in
-    omega (arith, mid-len (64 * l .seed) (64 * l .seed + 64) (c .before .before .before .before .before .before .four-seeds .last .1 .0) (omega arith))
+    omega (arith, mid-len (64 * l .lane) (64 * l .lane + 64) (c .before .before .before .before .before .before .four-seeds .last .1 .0) (omega arith))
 
-add-seed : tie.Need-add-seed Inv-loop μ-loop
-add-seed c = omega arith
+add-lane : tie.Need-add-lane Inv-loop μ-loop
+add-lane c = omega arith
 
 loop-less : tie.Need-loop-less Inv-loop μ-loop
 loop-less c = omega arith
@@ -64,7 +64,7 @@ loop-again c =
     let a = c .before .before .before .before .before .before .before .before .before .before .before .before .before .args in
     let n = length (now (a .out)) in
     let put = c .before .before .xor-front in
-    (omega arith, put .kept .1 .0 ∙ l .inv .1, rows-turn (l .seed) n (now (a .seeds)) (now (a .out)) (l .inv .2) (row-of-four (l .seed) (length (l .out)) n (now (a .seeds)) (c .before .before .before .before .before .before .before .before .before .four-seeds .last .1 .0) (omega arith) (omega arith) (l .inv .1) (c .before .before .before .before .before .before .before .before .before .four-seeds .ensures)) (put .ensures))
+    (omega arith, put .kept .1 .0 ∙ l .inv .1, rows-turn (l .lane) n (now (a .seeds)) (now (a .out)) (l .inv .2) (row-of-four (l .lane) (length (l .out)) n (now (a .seeds)) (c .before .before .before .before .before .before .before .before .before .four-seeds .last .1 .0) (omega arith) (omega arith) (l .inv .1) (c .before .before .before .before .before .before .before .before .before .four-seeds .ensures)) (put .ensures))
 
 same-length : tie.Need-same-length Inv-loop μ-loop
 same-length c = c .before .loop .inv .1
@@ -73,7 +73,7 @@ returns : tie.Need-returns Inv-loop μ-loop
 returns c =
     let l = c .before .loop in
     let a = c .before .before .before .before .before .before .before .args in
-    let all : l .seed ≡ 4 = omega arith in
+    let all : l .lane ≡ 4 = omega arith in
     subst (λ (k : ℕ). l .out ≡ xors (now (a .out)) (rows-joined k (length (now (a .out))) (now (a .seeds)))) all (l .inv .2)
 
 pub xor-four-spec : {M : Type 1} → statement M
@@ -91,7 +91,7 @@ xor-four-spec =
     part-xor-front-start
     part-xor-front-end
     xor-front-requires
-    add-seed
+    add-lane
     loop-less
     loop-again
     same-length

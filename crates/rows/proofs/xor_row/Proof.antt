@@ -16,7 +16,7 @@ abbrev μ-loop : tie.MeasureT-loop
 μ-loop seed out₀ done₀ counter₀ out done counter = length out₀ - done
 
 loop-holds : tie.Need-loop-holds Inv-loop μ-loop
-loop-holds c = none-xored _ _
+loop-holds c = none-xored _ _ _ (omega arith)
 
 sub-loop : tie.Need-sub-loop Inv-loop μ-loop
 sub-loop c = omega arith
@@ -54,7 +54,7 @@ loop-again c =
     let l = c .before .before .before .before .before .before .loop in
     let a = c .before .before .before .before .before .before .before .before .before .args in
     let put = c .before .before .xor-four-blocks in
-    next-four (now (a .seed)) (now (a .out)) (l .out) (l .done) (l .counter) (l .inv) (c .before .before .before .before .next-end .result) (put .last .1 .1 .0) (omega arith) (c .before .before .before .before .next-end .ensures) (put .kept .1 .1 .0) (put .ensures)
+    next-four (now (a .seed)) (now (a .out)) (l .out) (l .done) (l .counter) (l .inv) (c .before .before .before .before .next-end .result) _ (put .last .1 .1 .0) (omega arith) (omega arith) (c .before .before .before .before .next-end .ensures) (put .kept .1 .1 .0) (put .ensures)
 
 sub-xor-block : tie.Need-sub-xor-block Inv-loop μ-loop
 sub-xor-block c = omega arith
