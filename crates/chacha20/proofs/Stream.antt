@@ -41,7 +41,7 @@ length-mixed : (a b d n : ℕ) (xs : List ℕ) → length (mixed a b d n xs) ≡
 unfolding mixed
 length-mixed a b d n xs = simp length-set
 
-length-quarter : (a b c d : ℕ) (xs : List ℕ) → length (quarter a b c d xs) ≡ length xs
+pub length-quarter : (a b c d : ℕ) (xs : List ℕ) → length (quarter a b c d xs) ≡ length xs
 unfolding quarter
 length-quarter a b c d xs = simp length-mixed
 

@@ -30,7 +30,7 @@ fn xor_roll(word: u32, sum: u32, roll: u32) -> u32
 }
 
 // 2.1, one of the four lines: a += b; d ^= a; d <<<= roll
-fn half_step(state: [u32; 16], a: usize, b: usize, d: usize, roll: u32) -> [u32; 16]
+pub fn half_step(state: [u32; 16], a: usize, b: usize, d: usize, roll: u32) -> [u32; 16]
     requires { ⌜ (a < 16) × (b < 16) × (d < 16) × (0 < roll) × (roll < 32) ⌝ }
     ensures { λ r. ⌜ r ≡ mixed a b d roll state ⌝ }
 {

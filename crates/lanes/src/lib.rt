@@ -5,7 +5,7 @@ ghost use mathlib.Core.Path.{_≡_};
 ghost use Prim.Native.Nat.{_+_, _*_, _^_, _<_};
 ghost use lib.ListN.{length, take, drop};
 ghost use Rattle.chacha20.specs.Expand.{double-round, rounds, opening, blocks};
-ghost use Rattle.lanes.specs.Lanes.{lane-of, Side-by-side, Put, lanes-bytes, lanes-blocks, first-blocks};
+ghost use Rattle.lanes.specs.Lanes.{odd-lines, even-lines, Lines, lane-of, Side-by-side, Put, lanes-bytes, lanes-blocks, first-blocks};
 
 // A lane's state.
 fn lane(states: &[u32], l: usize) -> [u32; 16]
@@ -35,20 +35,64 @@ fn put_lane(states: &mut [u32], l: usize, words: [u32; 16])
     }
 }
 
-// A double round of one lane, by the table of chacha20. The scalar block has one of its own: each has one caller, in which the compiler
-// unfolds it.
+// RFC 8439, 2.1: the first line of four quarter rounds, or the third.
+fn odd_lines(
+    state: [u32; 16],
+    p: [usize; 4],
+    q: [usize; 4],
+    r: [usize; 4],
+    s: [usize; 4],
+    roll: u32,
+) -> [u32; 16]
+    requires { ⌜ Lines p q r s roll ⌝ }
+    ensures { λ next. ⌜ next ≡ odd-lines p q r s roll state ⌝ }
+{
+    let first = chacha20::half_step(state, p[0], p[1], p[3], roll);
+    let second = chacha20::half_step(first, q[0], q[1], q[3], roll);
+    let third = chacha20::half_step(second, r[0], r[1], r[3], roll);
+    chacha20::half_step(third, s[0], s[1], s[3], roll)
+}
+
+// The second line of four quarter rounds, or the last.
+fn even_lines(
+    state: [u32; 16],
+    p: [usize; 4],
+    q: [usize; 4],
+    r: [usize; 4],
+    s: [usize; 4],
+    roll: u32,
+) -> [u32; 16]
+    requires { ⌜ Lines p q r s roll ⌝ }
+    ensures { λ next. ⌜ next ≡ even-lines p q r s roll state ⌝ }
+{
+    let first = chacha20::half_step(state, p[2], p[3], p[1], roll);
+    let second = chacha20::half_step(first, q[2], q[3], q[1], roll);
+    let third = chacha20::half_step(second, r[2], r[3], r[1], roll);
+    chacha20::half_step(third, s[2], s[3], s[1], roll)
+}
+
+// A double round of one lane at the places of chacha20's table: the four columns line by line together, then the four diagonals, so that
+// neighbouring lines do not wait for each other.
 fn double_round(state: [u32; 16]) -> [u32; 16]
     ensures { λ r. ⌜ r ≡ double-round state ⌝ }
 {
     let table = chacha20::QUARTER_ROUNDS;
-    let first = chacha20::quarter_round(state, table[0]);
-    let second = chacha20::quarter_round(first, table[1]);
-    let third = chacha20::quarter_round(second, table[2]);
-    let fourth = chacha20::quarter_round(third, table[3]);
-    let fifth = chacha20::quarter_round(fourth, table[4]);
-    let sixth = chacha20::quarter_round(fifth, table[5]);
-    let seventh = chacha20::quarter_round(sixth, table[6]);
-    chacha20::quarter_round(seventh, table[7])
+    let a = table[0];
+    let b = table[1];
+    let c = table[2];
+    let d = table[3];
+    let first = odd_lines(state, a, b, c, d, 16);
+    let second = even_lines(first, a, b, c, d, 12);
+    let third = odd_lines(second, a, b, c, d, 8);
+    let fourth = even_lines(third, a, b, c, d, 7);
+    let e = table[4];
+    let f = table[5];
+    let g = table[6];
+    let h = table[7];
+    let fifth = odd_lines(fourth, e, f, g, h, 16);
+    let sixth = even_lines(fifth, e, f, g, h, 12);
+    let seventh = odd_lines(sixth, e, f, g, h, 8);
+    even_lines(seventh, e, f, g, h, 7)
 }
 
 // A double round of each lane.
