@@ -182,7 +182,7 @@ pub fn block(key: &[u8], counter: u32, nonce: &[u8], out: &mut [u8])
 }
 
 // Copies the first bytes of `bytes` into `out`, as many as it has room for.
-fn copy_front(bytes: &[u8], out: &mut [u8])
+pub fn copy_front(bytes: &[u8], out: &mut [u8])
     requires { ⌜ length (now out) ≤ length (now bytes) ⌝ }
     ensures { λ r. ⌜ now (out .exit) ≡ take (length (now (out .entry))) (now (bytes .entry)) ⌝ }
 {

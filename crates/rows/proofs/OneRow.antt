@@ -5,11 +5,11 @@ use mathlib.Core.List.{List, [], _∷_, _++_, append-assoc, append-nil}
 use Prim.Native.Nat.{ℕ, zero, suc, _+_, _*_, _-_, _<_, _≤_}
 use native.Mathlib.Omega.{arith}
 use native.Mathlib.Nat.{zero-add}
-use lib.ListN.{length, take, drop, replicate, length-replicate, drop-of-length-le}
+use lib.ListN.{length, take, drop, drop-of-length-le}
 use lib.Seq.{take-all, take-add, drop-at, length-take-le}
 use borrow.Rule.Slice.PartMut.{midOf, putMid, mid-len, same-len-mid}
 use Rattle.xor.specs.Xor.{xors, zeros}
-use Rattle.xor.proofs.Laws.{take-xors, drop-xors, length-xors, xors-zeros-left}
+use Rattle.xor.proofs.Laws.{take-xors, drop-xors, length-xors}
 use Rattle.chacha20.specs.Expand.{block, blocks, expand}
 use Rattle.chacha20.specs.Rfc8439.{chacha20-block, stream-blocks, key-stream}
 use Rattle.chacha20.proofs.Parts.{part-written}
@@ -20,6 +20,10 @@ use Rattle.rows.specs.Rows.{Next-end}
 pub one-block : (c : ℕ) (seed made : List ℕ) → made ≡ chacha20-block seed c (zeros 12) → made ≡ blocks 1 c seed
 unfolding blocks
 one-block c seed made is = is ∙ sym (block-is seed c) ∙ sym (append-nil (block seed c))
+
+-- the front of four blocks
+pub front-of-four : (n c : ℕ) (seed made : List ℕ) → n ≤ 256 → made ≡ blocks 4 c seed → take n made ≡ key-stream n c seed (zeros 12)
+front-of-four n c seed made h is = rw (is, blocks-is 4 c seed) (key-stream-of n 4 c seed (zeros 12) (omega arith))
 
 -- a row of at most a block
 pub short-row : (n : ℕ) (seed : List ℕ) → n ≤ 64 → take n (block seed 0) ≡ expand n seed
@@ -111,8 +115,3 @@ module _ (seed old out : List ℕ) (done counter : ℕ) (w : Xored seed old out 
       let same = w .same in
       written (length out) 1 part (omega arith) (omega arith) (omega arith) (omega arith) part-is
       ∙ rw (take-all (length out) (xors old row) (omega (arith, new-long)), drop-of-length-le old {i = length out} (omega arith)) (append-nil (xors old row))
-
--- a row XORed into zeros is the row
-pub into-zeros : (n : ℕ) (seed : List ℕ) {cleared out : List ℕ} → cleared ≡ replicate n 0 → out ≡ xors cleared (expand (length cleared) seed) → out ≡ expand n seed
-unfolding zeros
-into-zeros n seed e is = is ∙ rw (e, length-replicate {A = ℕ} n 0) (xors-zeros-left n (expand n seed) (word-expand n seed))

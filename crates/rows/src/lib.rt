@@ -4,8 +4,9 @@
 ghost use mathlib.Core.Path.{_≡_};
 ghost use Prim.Native.Nat.{_+_, _*_, _/_, _^_, _<_, _≤_};
 ghost use lib.ListN.{length, take};
-ghost use Rattle.xor.specs.Xor.{xors};
+ghost use Rattle.xor.specs.Xor.{xors, zeros};
 ghost use Rattle.chacha20.specs.Expand.{blocks, expand};
+ghost use Rattle.chacha20.specs.Rfc8439.{key-stream};
 ghost use Rattle.rows.specs.Rows.{rows-joined, Next-end};
 
 // Bytes of a seed.
@@ -75,13 +76,35 @@ fn xor_row(seed: &[u8], out: &mut [u8])
     }
 }
 
+// The key stream from the block of `counter` on, of at most four blocks: four made together where more than one is asked for.
+fn put_rest(seed: &[u8], counter: u32, out: &mut [u8])
+    requires { ⌜ (length (now seed) ≡ 32) × (counter + 4 < 2 ^ 32) × (length (now out) ≤ 256) ⌝ }
+    ensures { λ r. ⌜ now (out .exit) ≡ key-stream (length (now (out .entry))) counter (now (seed .entry)) (zeros 12) ⌝ }
+{
+    if out.len() <= BLOCK_BYTES {
+        let nonce = [0u8; 12];
+        chacha20::key_stream(seed, counter, &nonce, out);
+        return;
+    }
+    let mut made = [0u8; 256];
+    lanes::four_counters(seed, counter, &mut made);
+    chacha20::copy_front(&made, out);
+}
+
 // Document 01, "Rows from seeds": the seed is the key, the nonce twelve zero bytes, and the block counter starts at 0.
 pub fn expand(seed: &[u8], out: &mut [u8])
     requires { ⌜ (length (now seed) ≡ 32) × (length (now out) ≤ 4096) ⌝ }
     ensures { λ r. ⌜ now (out .exit) ≡ expand (length (now (out .entry))) (now (seed .entry)) ⌝ }
 {
-    writer::clear(out);
-    xor_row(seed, out);
+    let mut next: u32 = 0;
+    let mut done: usize = 0;
+    while FOUR_BLOCKS_BYTES <= out.len() - done {
+        let end = done + FOUR_BLOCKS_BYTES;
+        lanes::four_counters(seed, next, &mut out[done..end]);
+        done = end;
+        next += 4;
+    }
+    put_rest(seed, next, &mut out[done..]);
 }
 
 // XORs the rows of four seeds into `out`, which has at most a block's length.
