@@ -1,5 +1,6 @@
 -- The laws of the last word: a value between zeros, words and rows XORed one after another, and what these come to. Assumes nothing.
 use mathlib.Core.Path.{_≡_, refl, sym, ap, _∙_}
+use mathlib.Core.Bool.{true}
 use mathlib.Core.List.{List, [], _++_}
 use Prim.Native.Nat.{ℕ, zero, suc, _+_, _*_, _-_, _/_, _%_, _≤_, _<_}
 use native.Mathlib.Omega.{arith}
@@ -7,18 +8,20 @@ use native.Mathlib.Nat.{mul-le-mul-right}
 use native.Mathlib.Numerals.{add-one}
 use lib.ListN.{length, getD, take, drop, replicate, length-append, length-drop, length-replicate, replicate-append-replicate}
 use lib.Seq.{take-at, drop-at, drop-drop, length-take-le}
-use Rattle.xor.specs.Xor.{xors, zeros}
-use Rattle.xor.proofs.Laws.{length-xors}
+use Rattle.xor.specs.Xor.{xors, zeros, bytes-good}
+use Rattle.xor.proofs.Laws.{Word, word-xors, length-xors, xors-assoc, xors-zeros-right}
 use Rattle.grid.specs.Grid.{Board, columns, grid-rows, row-long, row-of, piece, xor-rows, xor-all}
 use Rattle.grid.proofs.Facts.{Board-in, cell-in, cell-fits, grid-row-in}
 use Rattle.chacha20.specs.Expand.{expand}
 use Rattle.chacha20.proofs.Stream.{word-expand}
+use Rattle.rows.specs.Rows.{rows-joined}
+use Rattle.rows.proofs.Seeds.{rows-of-front}
 use Rattle.keys.specs.Keys.{rows-from, words-from}
 use Rattle.keys.proofs.Lists.{words-at}
 use Rattle.keys.proofs.Dealing.{rows-at}
 use Rattle.writer.specs.Written.{written}
 use Rattle.dealing.specs.Dealt.{rule, dealt-word}
-use Rattle.dealing.proofs.Cuts.{rest-is}
+use Rattle.dealing.proofs.Cuts.{part-long, part-whole}
 
 -- THE PIECE
 
@@ -55,19 +58,21 @@ pub words-turn : (k n : ℕ) (bs xs : List ℕ) {out now : List ℕ} → out ≡
     now ≡ xor-all (words-from (k + 1) n bs) xs
 words-turn k n bs xs so-far is = is ∙ rw (so-far, add-one) (sym (xor-words-snoc k n bs xs))
 
--- ONE MORE ROW
+-- ROWS one after another, into what is there
 
-xor-seeds-snoc : (k : ℕ) (f : List ℕ → List ℕ) (ss xs : List ℕ) → xor-all (rows-from (suc k) f ss) xs ≡ xors (xor-all (rows-from k f ss) xs) (f (take 32 (drop (32 * k) ss)))
-unfolding xor-all rows-from
-xor-seeds-snoc zero f ss xs = refl
-xor-seeds-snoc (suc k) f ss xs =
-    let next : 32 + 32 * k ≡ 32 * suc k = omega arith in
-    xor-seeds-snoc k f (drop 32 ss) (xors xs (f (take 32 ss)))
-    ∙ ap (λ (l : List ℕ). xors (xor-all (rows-from k f (drop 32 ss)) (xors xs (f (take 32 ss)))) (f (take 32 l))) (drop-drop (32 * k) 32 ss ∙ ap (λ (m : ℕ). drop m ss) next)
+xor-rows-joined : (k n : ℕ) (ss xs : List ℕ) → Word n xs → xors xs (rows-joined k n ss) ≡ xor-all (rows-from k (expand n) ss) xs
+unfolding rows-joined xor-all rows-from
+xor-rows-joined zero n ss xs w = xors-zeros-right n xs w
+xor-rows-joined (suc k) n ss xs w =
+    let row = expand n (take 32 ss) in
+    sym (xors-assoc xs row (rows-joined k n (drop 32 ss))) ∙ xor-rows-joined k n (drop 32 ss) (xors xs row) (word-xors xs row w (word-expand n (take 32 ss)))
 
-pub seeds-turn : (k : ℕ) (f : List ℕ → List ℕ) (ss xs : List ℕ) {out now row : List ℕ} → out ≡ xor-all (rows-from k f ss) xs →
-    row ≡ f (take 32 (drop (32 * k) ss)) → now ≡ xors out row → now ≡ xor-all (rows-from (k + 1) f ss) xs
-seeds-turn k f ss xs so-far row-is is = is ∙ rw (so-far, row-is, add-one) (sym (xor-seeds-snoc k f ss xs))
+-- of seeds that are cut out of all seeds
+pub cut-rows : (from k n : ℕ) (seeds xs : List ℕ) → from + 32 * k ≤ length seeds → Word n xs → let cut = take (from + 32 * k - from) (drop from seeds) in
+    xors xs (rows-joined (length cut / 32) n cut) ≡ xor-all (rows-from k (expand n) (drop from seeds)) xs
+cut-rows from k n seeds xs room w =
+    let all : 32 * k / 32 ≡ k = omega arith in
+    rw (part-whole from (32 * k) seeds room, all, part-long from (32 * k), rows-of-front k n (32 * k) (drop from seeds) (omega arith)) (xor-rows-joined k n (drop from seeds) xs w)
 
 -- THE ROWS OF A GRID ROW, out of all rows
 
@@ -111,14 +116,20 @@ module _ (b : Board) (f : Board-in b) (a : ℕ) (value seeds words : List ℕ) (
       (xor-all (words-from (columns b - 1) (row-long b) words) (piece b a value)) (omega (arith, seeds-room)) in
       r ∙ rw (q, p, cell) (sym (rw first at rows))
 
+  -- the seeds of the point's grid row, as the code cuts them out
+  abbrev cut : (J : ℕ) → List ℕ
+  cut J = take (32 * (a / b .wide * J) + 32 * J - 32 * (a / b .wide * J)) (drop (32 * (a / b .wide * J)) seeds)
+
   -- the same in the numbers that the code has at hand
   pub word-steps : (first second third J : ℕ) → first ≡ row-long b → second ≡ row-long b → third ≡ row-long b → J ≡ columns b →
       {piece-out words-out rows-out : List ℕ} →
       piece-out ≡ zeros (a % b .wide * b .w) ++ value ++ zeros (first - (a % b .wide * b .w + length value)) →
       words-out ≡ xor-all (words-from (J - 1) second words) piece-out →
-      rows-out ≡ xor-all (rows-from J (expand third) (take (length seeds - 32 * (a / b .wide * J)) (drop (32 * (a / b .wide * J)) seeds))) words-out →
-      rows-out ≡ dealt-word b (rule b) a value seeds words
-  word-steps first second third J e f g h p q r = word-made (rw e at p) (rw (h, f) at q) (rw (h, g) at (rw (rest-is (32 * (a / b .wide * J)) seeds) at r))
+      32 * (a / b .wide * J) + 32 * J ≤ length seeds → length words-out ≡ third → bytes-good words-out ≡ true →
+      rows-out ≡ xors words-out (rows-joined (length (cut J) / 32) third (cut J)) → rows-out ≡ dealt-word b (rule b) a value seeds words
+  word-steps first second third J e f g h {piece-out} {words-out} {rows-out} p q room long good r =
+      let rows = cut-rows (32 * (a / b .wide * J)) J third seeds words-out room (record { long = long; good = good }) in
+      word-made (rw e at p) (rw (h, f) at q) (rw (h, g) at (r ∙ rows))
 
   -- a value between zeros has a row's length
   between-zeros : length (zeros (a % b .wide * b .w) ++ value ++ zeros (row-long b - (a % b .wide * b .w + length value))) ≡ row-long b

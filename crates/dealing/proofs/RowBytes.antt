@@ -2,13 +2,13 @@
 use mathlib.Core.Path.{_≡_, refl, sym, ap, _∙_}
 use mathlib.Core.Bool.{Bool, true, false, cond}
 use mathlib.Core.List.{List, [], _∷_, _++_, append-assoc, append-nil}
-use Prim.Native.Nat.{ℕ, zero, suc, _+_, _*_, _-_, _^_, _≤_, _<_}
+use Prim.Native.Nat.{ℕ, zero, suc, _+_, _*_, _-_, _/_, _%_, _^_, _≤_, _<_}
 use native.Mathlib.Omega.{arith}
 use native.Mathlib.Nat.{lt-of-lt-of-le, mul-le-mul-right}
 use lib.Pow.{pow-mono}
 use native.Mathlib.Numerals.{add-one}
 use lib.ListN.{length, getD, take, drop, length-append, drop-of-length-le, List·getD-eq-default}
-use lib.Dec.{leb}
+use lib.Dec.{leb, eqb}
 use lib.Seq.{drop-cons, drop-drop}
 use borrow.Author.Tests.{leb-true, leb-false}
 use Rattle.grid.specs.Grid.{Board, columns, grid-rows, bit}
@@ -45,6 +45,9 @@ packed-lt (suc n) i (c ∷ cs) = below (bit c i) (packed-from n 0 i cs) (packed-
     below true few more most twice m h d = omega arith
     below false few more most twice m h d = omega arith
 
+pub packed-small : (n i : ℕ) (cs : List ℕ) {byte : ℕ} → byte ≡ packed-from n 0 i cs → byte < 2 ^ n
+packed-small n i cs is = rw is (packed-lt n i cs)
+
 -- fewer than eight marks make less than 128
 pub packed-room : (place i : ℕ) (cs : List ℕ) → 0 < place → packed-from (8 - place) 0 i cs < 128
 packed-room place i cs h = lt-of-lt-of-le (packed-lt (8 - place) i cs) (pow-mono {i = 8 - place} {j = 7} (omega arith))
@@ -71,6 +74,54 @@ packed-next n i from cs = go (leb (length cs) from) refl
     go false e =
         rw (drop-cons cs from 0 (leb-false (length cs) from e))
         (digit (bit (getD cs from 0) i) (packed-from n 0 i (drop (suc from) cs)) (packed-from n 1 i (drop (suc from) cs)) (packed-double n 0 i (drop (suc from) cs)))
+
+-- the digit that the code reads
+digit-is : (v i : ℕ) → v / 2 ^ i % 2 ≡ mark-digit v i
+unfolding mark-digit bit
+digit-is v i = digit (v / 2 ^ i % 2) (omega arith)
+  where
+    digit : (x : ℕ) → x < 2 → x ≡ cond (eqb x 1) 1 0
+    digit zero h = refl
+    digit (suc zero) h = refl
+    digit (suc (suc x)) h = omega arith
+
+-- MARKS BY TWO, FOUR AND EIGHT
+
+packed-none : (n k i : ℕ) → packed-from n k i [] ≡ 0
+unfolding packed-from
+packed-none zero k i = refl
+packed-none (suc n) k i = refl
+
+packed-add : (m n k i : ℕ) (cs : List ℕ) → packed-from (m + n) k i cs ≡ packed-from m k i cs + packed-from n (m + k) i (drop m cs)
+unfolding packed-from
+packed-add zero n k i cs =
+    let all : zero + n ≡ n = omega arith in
+    let here : zero + k ≡ k = omega arith in
+    rw (all, here) (omega arith)
+packed-add (suc m) n k i [] =
+    let more : suc m + n ≡ suc (m + n) = omega arith in
+    rw (more, packed-none n (suc m + k) i)
+packed-add (suc m) n k i (c ∷ cs) =
+    let more : suc m + n ≡ suc (m + n) = omega arith in
+    let place : suc m + k ≡ m + suc k = omega arith in
+    rw (more, place, packed-add m n (suc k) i cs) (omega arith)
+
+up-two : (n i : ℕ) (cs : List ℕ) → packed-from n 2 i cs ≡ 4 * packed-from n 0 i cs
+up-two n i cs = omega (arith, packed-double n 1 i cs, packed-double n 0 i cs)
+
+up-four : (n i : ℕ) (cs : List ℕ) → packed-from n 4 i cs ≡ 16 * packed-from n 0 i cs
+up-four n i cs = omega (arith, packed-double n 3 i cs, packed-double n 2 i cs, up-two n i cs)
+
+module _ (i from : ℕ) (cs : List ℕ) where
+  pub two-packed : getD cs (from + 1) 0 / 2 ^ i % 2 * 2 + getD cs from 0 / 2 ^ i % 2 ≡ packed-from 2 0 i (drop from cs)
+  unfolding packed-from
+  two-packed = rw (add-one from, digit-is (getD cs (suc from) 0) i, digit-is (getD cs from 0) i) (omega (arith, packed-next 0 i (suc from) cs, packed-next 1 i from cs))
+
+  pub four-packed : {low high : ℕ} → low ≡ packed-from 2 0 i (drop from cs) → high ≡ packed-from 2 0 i (drop (from + 2) cs) → low + 4 * high ≡ packed-from 4 0 i (drop from cs)
+  four-packed p q = omega (arith, p, q ∙ ap (λ (l : List ℕ). packed-from 2 0 i l) (sym (drop-drop 2 from cs)), packed-add 2 2 0 i (drop from cs), up-two 2 i (drop 2 (drop from cs)))
+
+  pub eight-packed : {low high : ℕ} → low ≡ packed-from 4 0 i (drop from cs) → high ≡ packed-from 4 0 i (drop (from + 4) cs) → low + 16 * high ≡ packed-from 8 0 i (drop from cs)
+  eight-packed p q = omega (arith, p, q ∙ ap (λ (l : List ℕ). packed-from 4 0 i l) (sym (drop-drop 4 from cs)), packed-add 4 4 0 i (drop from cs), up-four 4 i (drop 4 (drop from cs)))
 
 -- PACKED BYTES, one more
 pub packed-snoc : (k i : ℕ) (cs : List ℕ) → packed (suc k) i cs ≡ packed k i cs ++ (packed-from 8 0 i (drop (8 * k) cs) ∷ [])

@@ -7,12 +7,12 @@ ghost use lib.ListN.{length};
 ghost use Rattle.xor.specs.Xor.{zeros};
 ghost use Rattle.grid.specs.Grid.{board-refusal, columns, grid-rows, row-long, xor-all};
 ghost use Rattle.grid.specs.Code.{board-of};
-ghost use Rattle.chacha20.specs.Expand.{expand};
-ghost use Rattle.keys.specs.Keys.{rows-from, words-from};
+ghost use Rattle.keys.specs.Keys.{words-from};
 ghost use Rattle.writer.specs.Written.{Wrote};
 ghost use Rattle.dealing.specs.Dealt.{rule, dealt-word};
 use grid::board::Board;
 use keys::grid_row::SEED_BYTES;
+use rows::xor_rows;
 
 // Writes the value from place `from` on, and zeros everywhere else.
 fn put_piece(out: &mut [u8], from: usize, value: &[u8])
@@ -38,33 +38,6 @@ fn xor_words(out: &mut [u8], count: usize, words: &[u8])
     }
 }
 
-// XORs the rows of `count` seeds that stand one after another into `out`. Each is expanded into `row`, which is scratch: its bytes
-// afterwards count for nothing.
-fn xor_rows(out: &mut [u8], row: &mut [u8], count: usize, seeds: &[u8])
-    requires { ⌜ (length (now row) ≡ length (now out)) × (length (now row) ≤ 4096) × (32 * count ≤ length (now seeds)) ⌝ }
-    ensures { λ r. ⌜ now (out .exit) ≡ xor-all (rows-from count (expand (length (now (out .entry)))) (now (seeds .entry))) (now (out .entry)) ⌝ }
-{
-    let row_length = row.len();
-    let mut column: usize = 0;
-    while column < count {
-        let from = SEED_BYTES * column;
-        let end = from + SEED_BYTES;
-        chacha20::expand(&seeds[from..end], row);
-        xor::xor_into(out, &row[..row_length]);
-        column += 1;
-    }
-}
-
-// The same, by way of one scratch row: no row is longer than 4,096 bytes.
-fn xor_expanded(out: &mut [u8], count: usize, seeds: &[u8])
-    requires { ⌜ (length (now out) ≤ 4096) × (32 * count ≤ length (now seeds)) ⌝ }
-    ensures { λ r. ⌜ now (out .exit) ≡ xor-all (rows-from count (expand (length (now (out .entry)))) (now (seeds .entry))) (now (out .entry)) ⌝ }
-{
-    let row_length = out.len();
-    let mut row = [0u8; 4096];
-    xor_rows(out, &mut row[..row_length], count, seeds);
-}
-
 // Fills `out` with the last word.
 fn last_word(out: &mut [u8], board: Board, point: u32, value: &[u8], seeds: &[u8], words: &[u8])
     requires { ⌜ (board-refusal (board-of board) ≡ 0) × (point < board .positions) × (length (now value) ≡ board .«value_bytes») × (length (now seeds) ≡ 32 * (grid-rows (board-of board) * columns (board-of board))) × (length (now words) ≡ (columns (board-of board) - 1) * row-long (board-of board)) × (length (now out) ≡ row-long (board-of board)) ⌝ }
@@ -75,7 +48,8 @@ fn last_word(out: &mut [u8], board: Board, point: u32, value: &[u8], seeds: &[u8
     put_piece(out, cell, value);
     xor_words(out, columns - 1, words);
     let from = SEED_BYTES * ((point / board.width) as usize * columns);
-    xor_expanded(out, columns, &seeds[from..]);
+    let end = from + SEED_BYTES * columns;
+    xor_rows(&seeds[from..end], out);
 }
 
 // Writes the last word from place `at` on.

@@ -1,37 +1,57 @@
 -- The check of arrays, one turn of each loop at a time: the ones of a column, a column among others, an array's columns, the
 -- arrays of the grid rows. `drop i` of a list is what a loop has left of it at place i.
 -- Assumes nothing.
-use mathlib.Core.Path.{_≡_, refl, sym, _∙_, ap, subst, subst⁻¹}
+use mathlib.Core.Path.{_≡_, refl, sym, _∙_, subst, subst⁻¹}
 use mathlib.Core.Bool.{Bool, true, false, _&&_, not, cond, Bool·beq}
 use mathlib.Core.List.{List, [], _∷_}
 use Prim.Native.Nat.{ℕ, zero, suc, _+_, _*_, _-_, _/_, _%_, _^_, _≤_, _<_}
-use native.Mathlib.Nat.{le-refl, mul-le-mul-right, zero-mul, suc-mul, sub-zero, add-sub-cancel-left}
+use native.Mathlib.Nat.{le-refl, not-suc-le-zero, mul-le-mul-right, zero-mul, suc-mul, sub-zero, add-sub-cancel-left}
 use native.Mathlib.Numerals.{add-one}
 use native.Mathlib.Omega.{arith}
+use lib.Bits.{bitXor}
 use lib.Dec.{ltb, eqb}
 use lib.ListN.{length, getD, take, drop, length-drop, drop-of-length-le}
 use lib.Seq.{drop-cons, drop-drop, take-all}
-use borrow.Author.Tests.{eq-eqb, ne-eqb, lt-ltb, le-ltb}
+use borrow.Author.Tests.{eq-eqb, ne-eqb, eqb-true, eqb-false, lt-ltb, le-ltb}
+use Rattle.xor.proofs.Laws.{and-left, and-right}
 use Rattle.grid.specs.Grid.{Board, columns, grid-rows, ones, is-odd, same-parity, member, array-good, arrays-good}
 use Rattle.grid.proofs.Refusing.{passed, failed}
 use Rattle.grid.proofs.Counting.{one-left}
 
 -- A COLUMN'S ONES
 
--- the ones counted so far and those of what is left of the column stay the ones of the whole column
-pub ones-next : (count rest place total : ℕ) → place < 8 → count + ones (8 - place) rest ≡ total
-    → count + rest % 2 + ones (8 - (place + 1)) (rest / 2) ≡ total
-unfolding ones
-ones-next count rest place total below h =
-    let e = subst (λ (left : ℕ). count + ones left rest ≡ total) (one-left 8 place below) h in omega (arith, e)
+-- the two halves of a byte XORed, then the quarters, then the eighths: one bit is left, and it is the parity
+abbrev pub folded-odd : ℕ → Bool
+folded-odd v =
+    let halves = bitXor v (v / 16) in
+    let quarters = bitXor halves (halves / 4) in eqb (bitXor quarters (quarters / 2) % 2) 1
 
-pub ones-counted : (count rest place column : ℕ) → 8 ≤ place → count + ones (8 - place) rest ≡ ones 8 column
-    → eqb (count % 2) 1 ≡ is-odd column
-unfolding ones is-odd
-ones-counted count rest place column past h =
-    let done : 8 - place ≡ 0 = omega arith in
-    let e = subst (λ (left : ℕ). count + ones left rest ≡ ones 8 column) done h in
-    let f : count ≡ ones 8 column = omega (arith, e) in ap (λ (n : ℕ). eqb (n % 2) 1) f
+-- a test of every number below n
+abbrev passes : (n : ℕ) → (ℕ → Bool) → Bool
+passes zero f = true
+passes (suc n) f = f n && passes n f
+
+passes-at : (n : ℕ) (f : ℕ → Bool) → passes n f ≡ true → (v : ℕ) → v < n → f v ≡ true
+passes-at zero f h v below = absurd (not-suc-le-zero below)
+passes-at (suc n) f h v below =
+    go (eqb v n) refl (λ less. passes-at n f (and-right (f n) (passes n f) h) v less)
+  where
+    go : (t : Bool) → eqb v n ≡ t → (v < n → f v ≡ true) → f v ≡ true
+    go true e rest = subst⁻¹ (λ (m : ℕ). f m ≡ true) (eqb-true v n e) (and-left (f n) (passes n f) h)
+    go false e rest =
+        let other = eqb-false v n e in
+        rest (omega arith)
+
+same-truth : (a b : Bool) → Bool·beq a b ≡ true → a ≡ b
+same-truth true true h = refl
+same-truth false false h = refl
+same-truth true false h = sym h
+same-truth false true h = h
+
+-- so it is for each byte, tested one by one
+pub odd-folded : (v : ℕ) → v < 256 → folded-odd v ≡ is-odd v
+unfolding is-odd ones
+odd-folded v below = same-truth (folded-odd v) (is-odd v) (passes-at 256 (λ u. Bool·beq (folded-odd u) (is-odd u)) refl v below)
 
 -- A COLUMN AMONG OTHERS
 

@@ -13,15 +13,9 @@ use crate::board::Board;
 fn is_odd(column: u8) -> bool
     ensures { λ r. ⌜ r ≡ is-odd column ⌝ }
 {
-    let mut ones: u8 = 0;
-    let mut rest = column;
-    let mut place: u32 = 0;
-    while place < 8 {
-        ones += rest % 2;
-        rest = rest / 2;
-        place += 1;
-    }
-    ones % 2 == 1
+    let halves = column ^ (column >> 4);
+    let quarters = halves ^ (halves >> 2);
+    (quarters ^ (quarters >> 1)) % 2 == 1
 }
 
 // Whether a column has marks of these players only, and is of the parity asked.

@@ -13,7 +13,7 @@ use keys::reader::header_in;
 ghost use mathlib.Core.Path.{_≡_};
 ghost use Prim.Native.Nat.{_*_};
 ghost use lib.ListN.{length};
-ghost use Rattle.grid.specs.Grid.{board-refusal, row-long};
+ghost use Rattle.grid.specs.Grid.{board-refusal};
 ghost use Rattle.grid.specs.Code.{board-of};
 ghost use Rattle.keys.specs.Keys.{key-long};
 ghost use Rattle.nosingginger.specs.Entry.{Open-all-says};
@@ -36,11 +36,10 @@ pub fn open_all(key: &[u8], output: &mut [u8]) -> u32
     ACCEPTED
 }
 
-// Fills `out` with the XOR of the tables of all keys, each accepted at its place. `row` has a row's length and is scratch.
-fn xor_tables(board: Board, keys: &[u8], row: &mut [u8], out: &mut [u8])
+// Fills `out` with the XOR of the tables of all keys, each accepted at its place.
+fn joined_tables(board: Board, keys: &[u8], out: &mut [u8])
     requires { ⌜ (board-refusal (board-of board) ≡ 0) × (length (now keys) ≡ board .players * key-long (board-of board))
-        × (places-refusal (board .players) 0 (board-of board) (now keys) ≡ 0) × (length (now out) ≡ board .positions * board .«value_bytes»)
-        × (length (now row) ≡ row-long (board-of board)) ⌝ }
+        × (places-refusal (board .players) 0 (board-of board) (now keys) ≡ 0) × (length (now out) ≡ board .positions * board .«value_bytes») ⌝ }
     ensures { λ r. ⌜ now (out .exit) ≡ joined-table (board .players) (board-of board) (now (keys .entry)) ⌝ }
 {
     writer::clear(out);
@@ -51,20 +50,9 @@ fn xor_tables(board: Board, keys: &[u8], row: &mut [u8], out: &mut [u8])
         player -= 1;
         let start = end - long;
         let header = Header { board, player };
-        opening::add_rows(&keys[start..end], header, row, out);
+        opening::add_rows(&keys[start..end], header, out);
         end = start;
     }
-}
-
-// The same with one scratch row for all keys.
-fn joined_tables(board: Board, keys: &[u8], out: &mut [u8])
-    requires { ⌜ (board-refusal (board-of board) ≡ 0) × (length (now keys) ≡ board .players * key-long (board-of board))
-        × (places-refusal (board .players) 0 (board-of board) (now keys) ≡ 0) × (length (now out) ≡ board .positions * board .«value_bytes») ⌝ }
-    ensures { λ r. ⌜ now (out .exit) ≡ joined-table (board .players) (board-of board) (now (keys .entry)) ⌝ }
-{
-    let mut scratch = [0u8; 4096];
-    let row_bytes = board.row_length();
-    xor_tables(board, keys, &mut scratch[..row_bytes], out);
 }
 
 // JOIN KEYS: for the first key 10, 1 to 5, 11; 12; then for each key in turn its 10, 1 to 5, 11, 15, 13; last 9. Writes the XOR of all tables.

@@ -6,11 +6,12 @@ use mathlib.Core.List.{List, _++_}
 use Prim.Native.Nat.{ℕ, _+_, _*_, _/_, _%_, _≤_}
 use native.Mathlib.Nat.{mul-le-mul}
 use native.Mathlib.Omega.{arith}
-use lib.ListN.{length, take, drop}
+use lib.ListN.{length, take, drop, replicate}
 use lib.Seq.{length-take-le}
-use Rattle.xor.specs.Xor.{bytes-good}
+use Rattle.xor.specs.Xor.{zeros, bytes-good}
 use Rattle.grid.specs.Grid.{Board, row-long, board-refusal}
 use Rattle.grid.proofs.Facts.{Board-in, board-accepted, cell-in, cell-fits}
+use Rattle.grid.proofs.Cells.{take-zeros}
 use Rattle.keys.specs.Keys.{key-refusal, head-in, header, stride, row-part, opened-part, opened, parts-of, parts-in, table-from, table}
 use Rattle.keys.specs.Answers.{checked-as, key-checked}
 use Rattle.keys.specs.declared.reader.Header.{Header}
@@ -32,6 +33,11 @@ cell-within b f a = omega (arith, cell-fits b (a % b .wide) (cell-in b f a))
 
 pub prefix-long : (n : ℕ) (xs : List ℕ) → n ≤ length xs → n ≡ length (take n xs)
 prefix-long n xs h = sym (length-take-le n xs h)
+
+-- the front of a scratch row is zeros
+pub scratch-zeros : (s n : ℕ) (xs : List ℕ) → s + n ≤ 4096 → n ≤ length xs → take (s + n) (replicate {A = ℕ} 4096 0) ≡ zeros (s + length (take n xs))
+unfolding zeros
+scratch-zeros s n xs small h = rw (← (prefix-long n xs h)) (take-zeros (s + n) 4096 small)
 
 pub put-in-front : (written new old : List ℕ) (n : ℕ) → written ≡ new → n ≤ length old → length written ≡ length (take n old) → written ++ drop n old ≡ in-front new old
 put-in-front written new old n e h long =

@@ -1,20 +1,21 @@
--- One column after another: what a marked column adds to the shares of a grid row, which held seed is its own, and that the seeds and words
--- of all columns lie in the part. Assumes nothing.
-use mathlib.Core.Path.{_≡_, refl, sym, ap, _∙_}
+-- One column after another: where a marked column's word stands in the part, what the words of the marked columns add, and where the held seeds
+-- stand. Assumes nothing.
+use mathlib.Core.Path.{_≡_, sym, _∙_}
 use mathlib.Core.Bool.{Bool, true, false, cond}
 use mathlib.Core.List.{List}
-use Prim.Native.Nat.{ℕ, zero, suc, _+_, _*_, _-_, _/_, _≤_, _<_}
+use Prim.Native.Nat.{ℕ, suc, _+_, _*_, _-_, _/_, _≤_, _<_}
 use native.Mathlib.Nat.{mul-le-mul-right}
 use native.Mathlib.Numerals.{add-one}
 use native.Mathlib.Omega.{arith}
 use lib.ListN.{length, take, drop, length-drop}
 use lib.Seq.{length-take-le}
-use Rattle.xor.specs.Xor.{xors, zeros, bytes-good}
-use Rattle.xor.proofs.Laws.{word-zeros, xors-assoc, xors-self, xors-zeros-right}
+use Rattle.xor.specs.Xor.{xors, bytes-good}
+use Rattle.xor.proofs.Laws.{xors-assoc, xors-zeros-right}
 use Rattle.grid.specs.Grid.{Board, columns, grid-rows, row-long}
-use Rattle.keys.specs.Keys.{count-marks, mark-bytes, stride, word-behind}
+use Rattle.keys.specs.Keys.{mark-bytes, stride}
 use Rattle.keys.specs.Held.{marked}
-use Rattle.opening.specs.Shares.{stretch, shares, shares-from}
+use Rattle.opening.specs.Shares.{stretch}
+use Rattle.opening.specs.Words.{marked-words}
 
 -- a product of the code's numbers is that of the definition's
 pub products : (a b c d : ℕ) → a ≡ c → b ≡ d → a * b ≡ c * d
@@ -27,115 +28,54 @@ part-long a k = omega arith
 pub part-whole : (a k : ℕ) (ps : List ℕ) → a + k ≤ length ps → length (take (a + k - a) (drop a ps)) ≡ k
 part-whole a k ps h = rw (part-long a k) (length-take-le k (drop a ps) (rw length-drop (omega arith)))
 
-module _ (b : Board) (ps : List ℕ) (g : ℕ) (inside : g < grid-rows b) (long : length ps ≡ (grid-rows b - g) * stride b + columns b * row-long b) where
-  -- the word of a column lies in the part
-  pub word-fits : (words j J l : ℕ) → words ≡ (grid-rows b - g) * stride b → J ≡ columns b → l ≡ row-long b → j < J → words + j * l + l ≤ length ps
-  word-fits words j J l w c r h =
-      let last : suc j * row-long b ≤ columns b * row-long b = mul-le-mul-right (row-long b) (omega arith) in
-      rw (w, r) (omega arith)
+-- the bytes from a place to the end
+pub rest-long : (a n : ℕ) (ps : List ℕ) → length ps ≡ a + n → length (take (length ps - a) (drop a ps)) ≡ n
+rest-long a n ps h = length-take-le (length ps - a) (drop a ps) (rw length-drop (omega arith)) ∙ omega arith
 
-  -- and so does the seed of each of half the columns
-  pub seed-fits : (marks q J : ℕ) → marks ≡ mark-bytes b → J ≡ columns b → q < J / 2 → marks + 32 * q + 32 ≤ length ps
-  unfolding stride
-  seed-fits marks q J m c h =
+module _ (b : Board) (ps : List ℕ) (g : ℕ) (inside : g < grid-rows b) (long : length ps ≡ (grid-rows b - g) * stride b + columns b * row-long b) where
+  -- the words of all columns stand behind the grid rows
+  pub words-there : (words : List ℕ) (J l : ℕ) → words ≡ drop ((grid-rows b - g) * stride b) ps → J ≡ columns b → l ≡ row-long b → J * l ≤ length words
+  words-there words J l e c r = rw (e, c, r, length-drop ((grid-rows b - g) * stride b) ps) (omega arith)
+
+  -- the grid row itself is there
+  pub row-there : stride b ≤ length ps
+  row-there =
       let left : grid-rows b - g ≡ suc (grid-rows b - suc g) = omega arith in
       let whole = rw left at long in omega (arith, whole)
 
--- a seed that lies in the part has its 32 bytes
-pub seed-whole : (seed ps : List ℕ) (at : ℕ) → seed ≡ take 32 (drop at ps) → at + 32 ≤ length ps → length seed ≡ 32
-seed-whole seed ps at e h = ap length e ∙ length-take-le 32 (drop at ps) (rw length-drop (omega arith))
+-- its held seeds lie in the grid row
+pub seeds-fit : (b : Board) (marks J : ℕ) (ps : List ℕ) → marks ≡ mark-bytes b → J ≡ columns b → stride b ≤ length ps → marks + 32 * (J / 2) ≤ length ps
+unfolding stride
+seeds-fit b marks J ps m c h = omega (arith, h)
 
--- the code's word and row of a column are those of the definition
-pub word-is : (b : Board) (ps : List ℕ) (g j words l long : ℕ) → words ≡ (grid-rows b - g) * stride b → l ≡ row-long b → long ≡ l →
-    take long (drop (words + j * l) ps) ≡ word-behind b ps g j
-unfolding word-behind
-word-is b ps g j words l long w r e = rw (e, w, r)
+pub seeds-are : (b : Board) (marks J : ℕ) (ps : List ℕ) → marks ≡ mark-bytes b → J ≡ columns b →
+    take (marks + 32 * (J / 2) - marks) (drop marks ps) ≡ take (32 * (columns b / 2)) (drop (mark-bytes b) ps)
+seeds-are b marks J ps m c = rw (part-long marks (32 * (J / 2)), m, c)
 
-pub row-is : (rule : ℕ → List ℕ → List ℕ) (b : Board) (ps seed : List ℕ) (marks q long : ℕ) → long ≡ row-long b → marks ≡ mark-bytes b → seed ≡ take 32 (drop (marks + 32 * q) ps) →
-    rule long seed ≡ rule (row-long b) (take 32 (drop (mark-bytes b + 32 * q) ps))
-row-is rule b ps seed marks q long r m e = rw (r, e, m)
+-- WORDS of the marked columns, one column after another
 
--- where the loop begins, and where it ends
-pub count-start : (J K : ℕ) (ps : List ℕ) → J ≡ K → count-marks K 0 ps ≡ K / 2 → 0 + count-marks (J - 0) 0 ps ≡ J / 2
-count-start J K ps c e =
-    let all : J - 0 ≡ K = omega arith in
-    rw (all, c) (omega arith)
+-- what is wanted of a column's word lies among the words
+pub word-fits : (words : List ℕ) (J j l s n : ℕ) → J * l ≤ length words → s + n ≤ l → j < J → j * l + s + n ≤ length words
+word-fits words J j l s n all within h =
+    let last : suc j * l ≤ J * l = mul-le-mul-right l (omega arith) in
+    omega arith
 
--- what is in `out` stays outside of the shares
-shares-xors : (k j q : ℕ) (b : Board) (f : List ℕ → List ℕ) (ps : List ℕ) (g s n : ℕ) (xs ys : List ℕ) →
-    shares-from k j q b f ps g s n (xors xs ys) ≡ xors xs (shares-from k j q b f ps g s n ys)
-unfolding shares-from
-shares-xors zero j q b f ps g s n xs ys = refl
-shares-xors (suc k) j q b f ps g s n xs ys =
-    let one = xors (stretch s n (word-behind b ps g j)) (stretch s n (f (take 32 (drop (mark-bytes b + 32 * q) ps)))) in
-    xors-either (marked ps j) xs _ _ _ _
-    (ap (λ (zs : List ℕ). shares-from k (suc j) (suc q) b f ps g s n zs) (xors-assoc xs ys one) ∙ shares-xors k (suc j) (suc q) b f ps g s n xs (xors ys one))
-    (shares-xors k (suc j) q b f ps g s n xs ys)
-  where
-    xors-either : (t : Bool) (xs us vs ys zs : List ℕ) → us ≡ xors xs ys → vs ≡ xors xs zs → cond t us vs ≡ xors xs (cond t ys zs)
-    xors-either true xs us vs ys zs e h = e
-    xors-either false xs us vs ys zs e h = h
+by-mark : (t : Bool) (out word new rest : List ℕ) → new ≡ cond t (xors out word) out → xors new rest ≡ xors out (cond t (xors word rest) rest)
+by-mark true out word new rest e = rw e (xors-assoc out word rest)
+by-mark false out word new rest e = rw e
 
-pub shares-start : (b : Board) (f : List ℕ → List ℕ) (ps : List ℕ) (g s J : ℕ) (xs : List ℕ) → J ≡ columns b → bytes-good xs ≡ true →
-    shares-from (J - 0) 0 0 b f ps g s (length xs) xs ≡ xors xs (shares b f ps g s (length xs))
-unfolding shares
-shares-start b f ps g s J xs c good =
-    let n = length xs in
-    let all : J - 0 ≡ columns b = omega arith in
-    let alone : xors xs (zeros n) ≡ xs = xors-zeros-right n xs (record { long = refl; good = good }) in
-    rw all (sym (ap (λ (ys : List ℕ). shares-from (columns b) 0 0 b f ps g s n ys) alone) ∙ shares-xors (columns b) 0 0 b f ps g s n xs (zeros n))
+-- a turn: the next column's word, where it is marked
+pub words-turn : (ps ws : List ℕ) (l s n J j : ℕ) (t : Bool) (out word new all : List ℕ) → j < J → xors out (marked-words (J - j) j ps ws l s n) ≡ all →
+    word ≡ stretch (j * l + s) n ws → t ≡ marked ps j → new ≡ cond t (xors out word) out → xors new (marked-words (J - (j + 1)) (j + 1) ps ws l s n) ≡ all
+unfolding marked-words
+words-turn ps ws l s n J j t out word new all within so-far word-here t-is e =
+    let left : J - j ≡ suc (J - suc j) = omega arith in
+    rw (add-one j) (by-mark t out word new (marked-words (J - suc j) (suc j) ps ws l s n) e ∙ rw (t-is, word-here) (rw left at so-far))
 
--- into zeros they are the shares themselves
-pub shares-fresh : (b : Board) (f : List ℕ → List ℕ) (ps : List ℕ) (g s : ℕ) (old cleared out : List ℕ) → cleared ≡ zeros (length old) →
-    out ≡ xors cleared (shares b f ps g s (length cleared)) → out ≡ shares b f ps g s (length old)
-unfolding shares
-shares-fresh b f ps g s old cleared out z e =
-    let n = length old in
-    let long : length cleared ≡ n = ap length z ∙ word-zeros n .long in
-    let both : xors (zeros n) (zeros n) ≡ zeros n = xors-self (zeros n) ∙ ap zeros (word-zeros n .long) in
-    e ∙ rw (long, z)
-    (sym (shares-xors (columns b) 0 0 b f ps g s n (zeros n) (zeros n)) ∙ ap (λ (ys : List ℕ). shares-from (columns b) 0 0 b f ps g s n ys) both)
-
-pub shares-end : (b : Board) (f : List ℕ → List ℕ) (ps : List ℕ) (g s n J j q : ℕ) (xs all : List ℕ) → J ≤ j → shares-from (J - j) j q b f ps g s n xs ≡ all → xs ≡ all
-unfolding shares-from
-shares-end b f ps g s n J j q xs all past h =
+-- after the last column nothing is left to add
+pub words-end : (ps ws : List ℕ) (l s n J j : ℕ) (out all : List ℕ) → J ≤ j → length out ≡ n → bytes-good out ≡ true →
+    xors out (marked-words (J - j) j ps ws l s n) ≡ all → out ≡ all
+unfolding marked-words
+words-end ps ws l s n J j out all past long good h =
     let none : J - j ≡ 0 = omega arith in
-    rw none at h
-
-module _ (ps : List ℕ) (J j q : ℕ) (within : j < J) (seen : q + count-marks (J - j) j ps ≡ J / 2) where
-  -- a marked column is one of the J/2, so that its seed is held
-  pub seed-held : marked ps j ≡ true → q < J / 2
-  unfolding count-marks marked
-  seed-held m =
-      let left : J - j ≡ suc (J - suc j) = omega arith in
-      let count = rw (left, m) at seen in omega (arith, count)
-
-  pub count-marked : (next : ℕ) → marked ps j ≡ true → next ≡ q + 1 → next + count-marks (J - (j + 1)) (j + 1) ps ≡ J / 2
-  unfolding count-marks marked
-  count-marked next m e =
-      let left : J - j ≡ suc (J - suc j) = omega arith in
-      let count = rw (left, m) at seen in rw (add-one j) (omega (arith, count))
-
-  pub count-unmarked : (next : ℕ) → marked ps j ≡ false → next ≡ q → next + count-marks (J - (j + 1)) (j + 1) ps ≡ J / 2
-  unfolding count-marks marked
-  count-unmarked next m e =
-      let left : J - j ≡ suc (J - suc j) = omega arith in
-      let count = rw (left, m) at seen in rw (add-one j) (omega (arith, count))
-
-module _ (b : Board) (f : List ℕ → List ℕ) (ps : List ℕ) (g s n J j q : ℕ) (within : j < J) (xs all : List ℕ)
-    (so-far : shares-from (J - j) j q b f ps g s n xs ≡ all) (ys : List ℕ) (next : ℕ) where
-  -- a column that is not marked adds nothing
-  pub unmarked-turn : marked ps j ≡ false → ys ≡ xs → next ≡ q → shares-from (J - (j + 1)) (j + 1) next b f ps g s n ys ≡ all
-  unfolding shares-from
-  unmarked-turn m same e =
-      let left : J - j ≡ suc (J - suc j) = omega arith in
-      rw (same, e, add-one j) (rw (left, m) at so-far)
-
-  -- a marked one adds its word and its seed's row
-  pub marked-turn : (word row : List ℕ) → marked ps j ≡ true → word ≡ word-behind b ps g j → row ≡ f (take 32 (drop (mark-bytes b + 32 * q) ps)) →
-      length xs ≡ n → next ≡ q + 1 → ys ≡ xors xs (xors (stretch s (length xs) word) (stretch s (length xs) row)) →
-      shares-from (J - (j + 1)) (j + 1) next b f ps g s n ys ≡ all
-  unfolding shares-from
-  marked-turn word row m v r e counted new =
-      let left : J - j ≡ suc (J - suc j) = omega arith in
-      rw (new, counted, e, v, r, add-one j, add-one q) (rw (left, m) at so-far)
+    sym (xors-zeros-right n out (record { long = long; good = good })) ∙ rw none at h

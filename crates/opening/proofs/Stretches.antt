@@ -5,10 +5,10 @@ use mathlib.Core.Bool.{Bool, true, false, cond}
 use mathlib.Core.List.{List, [], _∷_}
 use Prim.Native.Nat.{ℕ, zero, suc, _+_, _*_, _-_, _≤_}
 use native.Mathlib.Omega.{arith}
-use lib.ListN.{length, take, drop}
+use lib.ListN.{take, drop}
 use lib.Seq.{take-take}
 use Rattle.xor.specs.Xor.{xors, zeros}
-use Rattle.xor.proofs.Laws.{xors-assoc, take-xors, drop-xors}
+use Rattle.xor.proofs.Laws.{take-xors, drop-xors}
 use Rattle.grid.proofs.Cells.{take-zeros, drop-zeros}
 use Rattle.grid.specs.Grid.{Board, columns, row-long}
 use Rattle.keys.specs.Keys.{mark-bytes, word-behind}
@@ -31,13 +31,6 @@ stretch-within (suc s) n (suc l) (x ∷ xs) h = stretch-within s n l xs (omega a
 pub stretch-zeros : (s n l : ℕ) → s + n ≤ l → stretch s n (zeros l) ≡ zeros n
 unfolding stretch
 stretch-zeros s n l h = rw (drop-zeros s l (l - s) (omega arith)) (take-zeros n (l - s) (omega arith))
-
--- a word's stretch XORed in, and then a row's, is the XOR of both XORed in
-pub both-added : (out word row row-now first second : List ℕ) (s n : ℕ) → n ≡ length out → row-now ≡ row → first ≡ xors out (take n (drop s word)) →
-    second ≡ xors first (take n (drop s row-now)) → second ≡ xors out (xors (stretch s (length out) word) (stretch s (length out) row))
-unfolding stretch
-both-added out word row row-now first second s n e r p q =
-    q ∙ rw (p, r, e) (xors-assoc out (take (length out) (drop s word)) (take (length out) (drop s row)))
 
 -- a stretch of what one of two ways gives
 stretch-either : (s n : ℕ) (t : Bool) (xs ys us vs : List ℕ) → stretch s n xs ≡ us → stretch s n ys ≡ vs → stretch s n (cond t xs ys) ≡ cond t us vs

@@ -5,9 +5,7 @@ use Prim.Native.Nat.{ℕ, zero, suc, _+_, _*_, _-_, _≤_}
 use native.Mathlib.Omega.{arith}
 use native.Mathlib.Nat.{zero-add, suc-add}
 use lib.ListN.{take, drop}
-use lib.Seq.{take-take, take-nil, drop-nil}
-use Rattle.xor.specs.Xor.{xors}
-use Rattle.chacha20.specs.Expand.{expand}
+use lib.Seq.{take-take, take-nil}
 use Rattle.rows.specs.Rows.{rows-joined}
 
 -- the end of a front

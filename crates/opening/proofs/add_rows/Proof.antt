@@ -23,15 +23,15 @@ use Rattle.opening.proofs.add_rows.Statement.{statement}
 use Rattle.opening.proofs.add_rows.Tie as tie
 
 abbrev Inv-loop : tie.InvT-loop
-Inv-loop key header row₀ out₀ board grid-rows row-bytes grid-row₀ row out grid-row =
+Inv-loop key header out₀ board grid-rows row-bytes grid-row₀ out grid-row =
     let b = board-of (header .board) in
-    (grid-row ≤ grid-rows) × (length row ≡ row-bytes) × (length out ≡ length out₀) × Added b (expand (row-long b)) (head-in key .rest) out₀ out grid-row
+    (grid-row ≤ grid-rows) × (length out ≡ length out₀) × Added b (expand (row-long b)) (head-in key .rest) out₀ out grid-row
 
 abbrev μ-loop : tie.MeasureT-loop
-μ-loop key header row₀ out₀ board grid-rows row-bytes grid-row₀ row out grid-row = grid-rows - grid-row
+μ-loop key header out₀ board grid-rows row-bytes grid-row₀ out grid-row = grid-rows - grid-row
 
 -- the function's entry, from the place before the loop, and what is known there
-abbrev entry : tie.After-grid-rows Inv-loop μ-loop → tie.Start Inv-loop μ-loop
+abbrev entry : tie.After-row-length Inv-loop μ-loop → tie.Start Inv-loop μ-loop
 entry c = c .before .before .before .before .before
 
 abbrev its-board : tie.Start Inv-loop μ-loop → Board
@@ -48,9 +48,9 @@ accepted c = key-board-accepted (now (c .args .key)) (its-board c) (c .pre .0 .a
 
 out-long : (c : tie.Start Inv-loop μ-loop) → length (now (c .args .out)) ≡ its-board c .n * its-board c .w
 unfolding board
-out-long c = c .pre .2
+out-long c = c .pre .1
 
-body-known : (c : tie.After-grid-rows Inv-loop μ-loop) → Body-in (its-board (entry c)) (body (entry c))
+body-known : (c : tie.After-row-length Inv-loop μ-loop) → Body-in (its-board (entry c)) (body (entry c))
 body-known c =
     let s = entry c in
     let ks = now (s .args .key) in
@@ -58,27 +58,30 @@ body-known c =
 
 -- in a turn: the grid row exists, where it begins in the body and in the table, and how many bytes the table has of it
 inside : (c : tie.In-loop Inv-loop μ-loop) → c .before .loop .grid-row < grid-rows (its-board (entry (c .before .before)))
-inside c = omega (arith, c .loop-test .taken, c .before .before .grid-rows .ensures)
+inside c = omega (arith, c .loop-test .taken, c .before .before .before .grid-rows .ensures)
 
-at-is : (c : tie.In-loop Inv-loop μ-loop) → let s = entry (c .before .before) in
-    c .before .loop .grid-row * length (now (s .args .row)) ≡ c .before .loop .grid-row * row-long (its-board s)
-at-is c = ap (λ (n : ℕ). c .before .loop .grid-row * n) (entry (c .before .before) .pre .1)
+at-is : (c : tie.In-loop Inv-loop μ-loop) → let m = c .before .before in
+    c .before .loop .grid-row * m .row-length .result ≡ c .before .loop .grid-row * row-long (its-board (entry m))
+at-is c = ap (λ (n : ℕ). c .before .loop .grid-row * n) (c .before .before .row-length .ensures)
 
-at-within : (c : tie.In-loop Inv-loop μ-loop) → c .before .loop .grid-row * length (now (entry (c .before .before) .args .row)) ≤ length (c .before .loop .out)
+at-within : (c : tie.In-loop Inv-loop μ-loop) → c .before .loop .grid-row * c .before .before .row-length .result ≤ length (c .before .loop .out)
 at-within c =
     let l = c .before .loop in
     let s = entry (c .before .before) in
-    omega (arith, at-is c, row-in-table (its-board s) (board-known s) (l .grid-row) (inside c), l .inv .2, out-long s)
+    omega (arith, at-is c, row-in-table (its-board s) (board-known s) (l .grid-row) (inside c), l .inv .1, out-long s)
 
-end-within : (c : tie.After-least Inv-loop μ-loop) → let s = entry (c .before .before .before) in
-    c .before .before .loop .grid-row * length (now (s .args .row)) + c .least .result ≤ length (c .before .before .loop .out)
+end-within : (c : tie.After-least Inv-loop μ-loop) →
+    c .before .before .loop .grid-row * c .before .before .before .row-length .result + c .least .result ≤ length (c .before .before .loop .out)
 end-within c = omega (arith, c .least .ensures, at-within (c .before))
 
 grid-rows-requires : tie.Need-grid-rows-requires Inv-loop μ-loop
-grid-rows-requires c κs = accepted (c .before .before .before .before)
+grid-rows-requires c κs = accepted (c .before .before .before)
+
+row-length-requires : tie.Need-row-length-requires Inv-loop μ-loop
+row-length-requires c κs = accepted (c .before .before .before .before)
 
 loop-holds : tie.Need-loop-holds Inv-loop μ-loop
-loop-holds c = (omega arith, refl, refl, nothing-added _ _ _ _)
+loop-holds c = (omega arith, refl, nothing-added _ _ _ _)
 
 mul-at : tie.Need-mul-at Inv-loop μ-loop
 mul-at c = omega (arith, at-within c)
@@ -103,11 +106,11 @@ part-add-part-start : tie.Need-part-add-part-start Inv-loop μ-loop
 part-add-part-start c = omega arith
 
 part-add-part-end : tie.Need-part-add-part-end Inv-loop μ-loop
-part-add-part-end c = end-within (c .before .before)
+part-add-part-end c = end-within (c .before)
 
 add-part-requires : tie.Need-add-part-requires Inv-loop μ-loop
 add-part-requires c κs =
-    let p = c .before .before in
+    let p = c .before in
     let n = p .before in
     let l = n .before .before .loop in
     let m = n .before .before .before in
@@ -119,8 +122,7 @@ add-part-requires c κs =
       omega (arith, inside (n .before)),
       part-length b bs (body-known m) _ (omega (arith, inside (n .before))) _ (p .row-part .ensures),
       part-marks b bs (body-known m) _ (omega (arith, inside (n .before))) _ (p .row-part .ensures),
-      l .inv .1 ∙ s .pre .1,
-      omega (arith, room, n .least .ensures, s .pre .1),
+      omega (arith, room, n .least .ensures, m .row-length .ensures),
     )
 
 add-grid-row : tie.Need-add-grid-row Inv-loop μ-loop
@@ -131,40 +133,35 @@ loop-less c = omega arith
 
 loop-again : tie.Need-loop-again Inv-loop μ-loop
 loop-again c =
-    let done = c .before .before .before .before in
-    let p = done .before .before .before in
+    let done = c .before .before in
+    let p = done .before .before in
     let n = p .before in
     let l = n .before .before .loop in
     let m = n .before .before .before in
     let s = entry m in
     let b = its-board s in
-    let at = l .grid-row * length (now (s .args .row)) in
+    let at = l .grid-row * m .row-length .result in
     let size = n .least .result in
-    let new = done .add-part .last .1 .1 .1 .1 .1 .0 in
-    let kept = done .add-part .kept .1 .1 .1 .1 in
+    let new = done .add-part .last .1 .1 .1 .0 in
     let room = part-whole at size (l .out) (end-within n) in
     let count = part-long at size in (
       omega arith,
-      kept .0 ∙ l .inv .1,
-      same-len-mid at (at + size - at) (l .out) new (kept .1 .0) ∙ l .inv .2,
+      same-len-mid at (at + size - at) (l .out) new (done .add-part .kept .1 .1 .1 .0) ∙ l .inv .1,
       row-added b (expand (row-long b)) (body s) (board-known s) (expansion b) (body-known m) (l .grid-row) (inside (n .before)) (now (s .args .out)) (l .out) _ new at (at + size - at) _
-          (at-is (n .before)) (count ∙ count-is b (board-known s) (l .grid-row) (inside (n .before)) _ _ size (s .pre .1) (l .inv .2 ∙ out-long s) (n .least .ensures)) (l .inv .3)
-          (p .row-part .ensures) (room ∙ sym count) (done .add-part .ensures) (omega (arith, end-within n, l .inv .2)),
+          (at-is (n .before)) (count ∙ count-is b (board-known s) (l .grid-row) (inside (n .before)) _ _ size (m .row-length .ensures) (l .inv .1 ∙ out-long s) (n .least .ensures)) (l .inv .2)
+          (p .row-part .ensures) (room ∙ sym count) (done .add-part .ensures) (omega (arith, end-within n, l .inv .1)),
     )
 
 same-length : tie.Need-same-length Inv-loop μ-loop
 same-length c = omega arith
-
-same-length-2 : tie.Need-same-length-2 Inv-loop μ-loop
-same-length-2 c = omega arith
 
 returns : tie.Need-returns Inv-loop μ-loop
 returns c =
     let m = c .before .before in
     let s = entry m in
     let l = c .before .loop in
-    all-added (its-board s) _ (body s) (now (s .args .out)) (l .out) (l .grid-row) (board-known s) (omega (arith, c .loop-test .left, m .grid-rows .ensures))
-    (omega (arith, l .inv .0, m .grid-rows .ensures)) (out-long s) (l .inv .3)
+    all-added (its-board s) _ (body s) (now (s .args .out)) (l .out) (l .grid-row) (board-known s) (omega (arith, c .loop-test .left, m .before .grid-rows .ensures))
+    (omega (arith, l .inv .0, m .before .grid-rows .ensures)) (out-long s) (l .inv .2)
     ∙ ap (λ (t : List ℕ). xors (now (s .args .out)) t) (table-is (now (s .args .key)) (its-board s) (s .pre .0 .accepted) (s .pre .0 .board-is) _)
 
 pub add-rows-spec : {M : Type 1} → statement M
@@ -174,6 +171,7 @@ add-rows-spec =
     Inv-loop
     μ-loop
     grid-rows-requires
+    row-length-requires
     loop-holds
     mul-at
     sub-least
@@ -188,5 +186,4 @@ add-rows-spec =
     loop-less
     loop-again
     same-length
-    same-length-2
     returns)

@@ -1,17 +1,67 @@
--- `opening::open_part` meets its contract. Assumes nothing.
+-- `opening::open_part` meets its contract: the rows' stretch and the words, one after the other, are the shares. Assumes nothing.
+use mathlib.Core.Path.{_≡_, sym, ap, _∙_}
+use Prim.Native.Nat.{_+_, _≤_}
+use native.Mathlib.Omega.{arith}
+use lib.ListN.{length}
 use denote.Ref.{now}
 use Rattle.xor.specs.Xor.{zeros}
+use Rattle.xor.proofs.Laws.{word-zeros}
 use Rattle.grid.specs.Code.{board-of}
-use Rattle.opening.proofs.Columns.{shares-fresh}
+use Rattle.grid.proofs.Facts.{board-in}
+use Rattle.grid.proofs.Sizes.{row-most}
+use Rattle.keys.specs.Keys.{stride}
+use Rattle.opening.proofs.Columns.{rest-long, row-there, words-there}
+use Rattle.opening.proofs.Halves.{part-opened}
 use borrow.Author.Needs.{needs}
 use Rattle.opening.proofs.open_part.Statement.{statement}
 use Rattle.opening.proofs.open_part.Tie as tie
 
+-- the grid row is there
+there : (s : tie.Start) → stride (board-of (s .args .board)) ≤ length (now (s .args .part))
+there s = row-there (board-of (s .args .board)) (now (s .args .part)) (s .args .grid-row) (s .pre .1) (s .pre .2)
+
+-- the scratch row goes as far as what is wanted
+row-is : (s : tie.Start) → length (now (s .args .row)) ≡ s .args .from + length (now (s .args .out))
+row-is s = ap length (s .pre .4) ∙ word-zeros _ .long
+
+row-seeds-requires : tie.Need-row-seeds-requires
+row-seeds-requires c κs = let s = c .before .before .before in (s .pre .0, there s)
+
+xor-rows-requires : tie.Need-xor-rows-requires
+xor-rows-requires c κs = let s = c .before .before .before .before .before in omega (arith, row-is s, s .pre .5, row-most _ (board-in _ (s .pre .0)))
+
 clear-requires : tie.Need-clear-requires
 clear-requires c κs = search needs
 
-add-part-requires : tie.Need-add-part-requires
-add-part-requires c κs = search needs
+sub-xor-into : tie.Need-sub-xor-into
+sub-xor-into c = omega (arith, row-is (c .before .before .before .before .before .before .before .before .before .before .before .before .before), c .before .before .before .before .before .before .before .xor-rows .kept .1 .0)
+
+part-xor-into-start : tie.Need-part-xor-into-start
+part-xor-into-start c = omega (arith, row-is (c .before .before .before .before .before .before .before .before .before .before .before .before .before .before), c .before .before .before .before .before .before .before .before .xor-rows .kept .1 .0)
+
+part-xor-into-end : tie.Need-part-xor-into-end
+part-xor-into-end c = search needs
+
+xor-into-requires : tie.Need-xor-into-requires
+xor-into-requires c κs =
+    c .before .before .before .before .before .clear .kept .0 ∙ sym (rest-long (c .before .before .before .before .before .before .before .before .before .before .before .before .before .before .before .args .from) _ (c .before .before .before .before .before .before .before .before .before .xor-rows .last .1 .0) (c .before .before .before .before .before .before .before .before .before .xor-rows .kept .1 .0 ∙ row-is (c .before .before .before .before .before .before .before .before .before .before .before .before .before .before .before)))
+
+words-behind-requires : tie.Need-words-behind-requires
+words-behind-requires c κs = search needs
+
+columns-requires : tie.Need-columns-requires
+columns-requires c κs = search needs
+
+row-length-requires : tie.Need-row-length-requires
+row-length-requires c κs = search needs
+
+add-words-requires : tie.Need-add-words-requires
+add-words-requires c κs =
+    let s = c .before .before .before .before .before .before .before .before .before .before .before .before .before .before .before .before .before .before .before .before .before .before in
+    let row = c .before .row-length in (
+      words-there (board-of (s .args .board)) (now (s .args .part)) (s .args .grid-row) (s .pre .1) (s .pre .2) _ _ _ (c .before .before .before .words-behind .ensures) (c .before .before .columns .ensures) (row .ensures),
+      omega (arith, row .ensures, c .before .before .before .before .before .before .xor-into .kept .0, c .before .before .before .before .before .before .before .before .before .before .before .before .clear .kept .0, s .pre .5),
+    )
 
 same-length : tie.Need-same-length
 same-length c = search needs
@@ -22,12 +72,28 @@ same-length-2 c = search needs
 returns : tie.Need-returns
 unfolding zeros
 returns c =
-    let added = c .before .before .before .before in
-    let cleared = added .before .before .before .before .before in
-    let a = cleared .before .before .before .before .before .args in
-    shares-fresh (board-of (a .board)) _ (now (a .part)) (a .grid-row) (a .from) (now (a .out)) (cleared .clear .last .0) _ (cleared .clear .ensures)
-    (added .add-part .ensures)
+    let s = c .before .before .before .before .before .before .before .before .before .before .before .before .before .before .before .before .before .before .before .before .before .before .before .before .before in
+    let added = c .before .before .before .before .before .before .before .before .before .xor-into in
+    let cleared = c .before .before .before .before .before .before .before .before .before .before .before .before .before .before .before .clear in
+    part-opened (board-of (s .args .board)) (now (s .args .part)) (s .args .grid-row) (s .pre .3) (there s) _ (c .before .before .before .before .before .before .before .before .before .before .before .before .before .before .before .before .before .before .before .before .before .row-seeds .ensures) _ (c .before .before .before .before .before .before .words-behind .ensures) _ _
+    (c .before .before .before .before .before .columns .ensures) (c .before .before .before .before .row-length .ensures) (s .args .from) (length (now (s .args .out))) (now (s .args .row)) _ _ _ _ (s .pre .5) (s .pre .4) (c .before .before .before .before .before .before .before .before .before .before .before .before .before .before .before .before .before .before .before .xor-rows .ensures)
+    (cleared .ensures) (added .ensures) (added .kept .0 ∙ cleared .kept .0) (c .before .before .add-words .ensures)
 
 pub open-part-spec : {M : Type 1} → statement M
 open-part-spec =
-    tie.close (tie.spec clear-requires add-part-requires same-length same-length-2 returns)
+    tie.close
+    (tie.spec
+    row-seeds-requires
+    xor-rows-requires
+    clear-requires
+    sub-xor-into
+    part-xor-into-start
+    part-xor-into-end
+    xor-into-requires
+    words-behind-requires
+    columns-requires
+    row-length-requires
+    add-words-requires
+    same-length
+    same-length-2
+    returns)

@@ -23,24 +23,21 @@ add-rows-requires c κs = search needs
 same-length : tie.Need-same-length
 same-length c = search needs
 
-same-length-2 : tie.Need-same-length-2
-same-length-2 c = search needs
-
 returns : tie.Need-returns
 unfolding board zeros
 returns c =
-    let added = c .before .before .before .before in
-    let cleared = added .before .before .before .before .before in
-    let known = cleared .before .before .before .before in
+    let added = c .before .before in
+    let cleared = added .before .before .before .before in
+    let known = cleared .before .before .before in
     let s = known .before in
     let ks = now (s .args .key) in
     let b = board-of (s .args .header .board) in
     let is = table-is ks b (s .pre .0 .accepted) (s .pre .0 .board-is) _ in
     table-fresh b _ (head-in ks .rest) (now (s .args .out)) (cleared .clear .last .0) _ (key-board ks b (s .pre .0 .accepted) (s .pre .0 .board-is)) (expansion b)
-    (key-body ks b (s .pre .0 .accepted) (s .pre .0 .board-is) (good-by-entries ks (λ i within. known .shared-slice-known .given i .fits))) (s .pre .2)
+    (key-body ks b (s .pre .0 .accepted) (s .pre .0 .board-is) (good-by-entries ks (λ i within. known .shared-slice-known .given i .fits))) (s .pre .1)
     (cleared .clear .ensures) (added .add-rows .ensures ∙ ap (λ (t : List ℕ). xors (cleared .clear .last .0) t) (sym is))
     ∙ is
 
 pub open-rows-spec : {M : Type 1} → statement M
 open-rows-spec =
-    tie.close (tie.spec clear-requires add-rows-requires same-length same-length-2 returns)
+    tie.close (tie.spec clear-requires add-rows-requires same-length returns)

@@ -11,7 +11,7 @@ use Rattle.grid.proofs.Facts.{Board-in, grid-row-in}
 use Rattle.grid.proofs.Sizes.{row-most}
 use Rattle.keys.specs.Keys.{head-in}
 use Rattle.keys.proofs.Accepted.{Body-in}
-use Rattle.opening.proofs.Bodies.{cell-within, prefix-long, put-in-front, key-board, key-board-accepted, key-body, square-is}
+use Rattle.opening.proofs.Bodies.{cell-within, prefix-long, scratch-zeros, put-in-front, key-board, key-board-accepted, key-body, square-is}
 use Rattle.opening.proofs.GridRows.{part-length, part-marks}
 use Rattle.opening.proofs.open_square.Statement.{statement}
 use Rattle.opening.proofs.open_square.Tie as tie
@@ -40,8 +40,10 @@ cell-room : (c : tie.Start) →
 unfolding board
 cell-room c = cell-within (its-board c) (board-known c) (c .args .position)
 
-row-within : (c : tie.After-row-length) → c .row-length .result ≤ 4096
-row-within c = omega (arith, c .row-length .ensures, row-most _ (board-known (c .before .before .before .before)))
+-- the rows are expanded no further than the scratch row goes
+cell-small : (c : tie.Start) →
+    c .args .position % c .args .header .board .width * c .args .header .board .«value_bytes» + c .args .header .board .«value_bytes» ≤ 4096
+cell-small c = omega (arith, cell-room c, row-most _ (board-known c))
 
 body-known : (c : tie.After-shared-slice-known) → Body-in (its-board (c .before)) (head-in (now (c .before .args .key)) .rest)
 body-known c =
@@ -49,59 +51,52 @@ body-known c =
     let ks = now (s .args .key) in
     key-body ks (its-board s) (s .pre .0 .accepted) (s .pre .0 .board-is) (good-by-entries ks (λ i within. c .shared-slice-known .given i .fits))
 
-row-length-requires : tie.Need-row-length-requires
-row-length-requires c κs = accepted (c .before .before .before)
-
 div-grid-row : tie.Need-div-grid-row
-div-grid-row c = width-least (c .before .before .before .before .before)
+div-grid-row c = width-least (c .before .before .before .before)
 
 cast-grid-row : tie.Need-cast-grid-row
-cast-grid-row c =
-    let s = c .before .before .before .before .before in omega (arith, inside s, board-known s .rows-most)
+cast-grid-row c = let s = c .before .before .before .before in omega (arith, inside s, board-known s .rows-most)
 
 rem-from : tie.Need-rem-from
-rem-from c = width-least (c .before .before .before .before .before .before)
+rem-from c = width-least (c .before .before .before .before .before)
 
 mul-from : tie.Need-mul-from
-mul-from c =
-    let s = c .before .before .before .before .before .before .before in omega (arith, cell-room s, row-most _ (board-known s))
+mul-from c = let s = c .before .before .before .before .before .before in omega (arith, cell-room s, row-most _ (board-known s))
 
 cast-from : tie.Need-cast-from
-cast-from c =
-    let s = c .before .before .before .before .before .before .before in omega (arith, cell-room s, row-most _ (board-known s))
+cast-from c = let s = c .before .before .before .before .before .before in omega (arith, cell-room s, row-most _ (board-known s))
 
 cast-count : tie.Need-cast-count
-cast-count c =
-    let s = c .before .before .before .before .before .before .before .before in omega (arith, cell-room s, row-most _ (board-known s))
+cast-count c = let s = c .before .before .before .before .before .before .before in omega (arith, cell-room s, row-most _ (board-known s))
+
+add-end : tie.Need-add-end
+add-end c = let s = c .before .before .before .before .before .before .before in omega (arith, cell-room s, row-most _ (board-known s))
 
 row-part-requires : tie.Need-row-part-requires
-row-part-requires c κs =
-    let s = c .before .before .before .before .before .before .before .before in (s .pre .0, inside s)
+row-part-requires c κs = let s = c .before .before .before .before .before .before .before in (s .pre .0, inside s)
 
 array-borrow-prefix-scratch : tie.Need-array-borrow-prefix-scratch
-array-borrow-prefix-scratch c = row-within (c .before .before .before .before .before)
+array-borrow-prefix-scratch c = cell-small (c .before .before .before .before .before .before .before .before)
 
 slice-aggregate-open-part : tie.Need-slice-aggregate-open-part
-slice-aggregate-open-part c = prefix-long (c .before .before .before .before .before .before .row-length .result) _ (row-within (c .before .before .before .before .before .before))
+slice-aggregate-open-part c = prefix-long _ _ (cell-small (c .before .before .before .before .before .before .before .before .before))
 
 slice-relend-prefix-open-part : tie.Need-slice-relend-prefix-open-part
-slice-relend-prefix-open-part c = c .before .before .before .before .before .before .before .before .before .before .pre .2
+slice-relend-prefix-open-part c = c .before .before .before .before .before .before .before .before .before .pre .2
 
 slice-aggregate-open-part-2 : tie.Need-slice-aggregate-open-part-2
-slice-aggregate-open-part-2 c =
-    let s = c .before .before .before .before .before .before .before .before .before .before .before in prefix-long _ (now (s .args .out)) (s .pre .2)
+slice-aggregate-open-part-2 c = let s = c .before .before .before .before .before .before .before .before .before .before in prefix-long _ (now (s .args .out)) (s .pre .2)
 
 open-part-requires : tie.Need-open-part-requires
 open-part-requires c κs =
     let p = c .before .before in
-    let r = p .before .before .before .before .before in
-    let known = r .before .before .before in
+    let known = c .before .before .before .before .before .before .before .before .before in
     let s = known .before in (
       accepted s,
       inside s,
       part-length (its-board s) _ (body-known known) _ (inside s) _ (p .row-part .ensures),
       part-marks (its-board s) _ (body-known known) _ (inside s) _ (p .row-part .ensures),
-      sym (prefix-long (r .row-length .result) _ (row-within r)) ∙ r .row-length .ensures,
+      scratch-zeros _ _ (now (s .args .out)) (cell-small s) (s .pre .2),
       omega (arith, prefix-long _ (now (s .args .out)) (s .pre .2), cell-room s),
     )
 
@@ -113,7 +108,7 @@ unfolding board
 returns c =
     let done = c .before .before .before in
     let p = done .before .before .before in
-    let s = p .before .before .before .before .before .before .before .before .before in
+    let s = p .before .before .before .before .before .before .before .before in
     put-in-front (done .open-part .last .1 .1 .1 .1 .1 .0) _ (now (s .args .out)) _
     (done .open-part .ensures
     ∙ square-is (now (s .args .key)) (its-board s) (s .pre .0 .accepted) (s .pre .0 .board-is) _ _ (s .args .position) _ (p .row-part .ensures)
@@ -124,13 +119,13 @@ pub open-square-spec : {M : Type 1} → statement M
 open-square-spec =
     tie.close
     (tie.spec
-    row-length-requires
     div-grid-row
     cast-grid-row
     rem-from
     mul-from
     cast-from
     cast-count
+    add-end
     row-part-requires
     array-borrow-prefix-scratch
     slice-aggregate-open-part

@@ -1,13 +1,12 @@
 -- `opening::open_table` meets its contract. Assumes nothing.
-use mathlib.Core.Path.{sym, _∙_}
+use mathlib.Core.Path.{sym}
 use Prim.Native.Nat.{_*_, _≤_}
 use native.Mathlib.Omega.{arith}
 use denote.Ref.{now}
 use borrow.Author.Needs.{needs}
 use Rattle.grid.specs.Grid.{board}
 use Rattle.grid.specs.Code.{board-of}
-use Rattle.grid.proofs.Facts.{Board-in, board-accepted}
-use Rattle.grid.proofs.Sizes.{row-most}
+use Rattle.grid.proofs.Facts.{Board-in}
 use Rattle.opening.proofs.Bodies.{table-most, prefix-long, put-in-front, key-board}
 use Rattle.opening.proofs.open_table.Statement.{statement}
 use Rattle.opening.proofs.open_table.Tie as tie
@@ -21,59 +20,38 @@ count-most : (c : tie.Start) → c .args .header .board .positions * c .args .he
 unfolding board
 count-most c = table-most (board-of (c .args .header .board)) (board-known c)
 
--- the scratch row has room for a row
-row-within : (c : tie.After-row-length) → c .row-length .result ≤ 4096
-row-within c = omega (arith, c .row-length .ensures, row-most _ (board-known (c .before .before .before .before)))
-
-row-length-requires : tie.Need-row-length-requires
-row-length-requires c κs =
-    let s = c .before .before .before in board-accepted (board-of (s .args .header .board)) (board-known s)
-
 mul-count : tie.Need-mul-count
-mul-count c = omega (arith, count-most (c .before .before .before .before .before))
+mul-count c = omega (arith, count-most (c .before .before .before .before))
 
 cast-count : tie.Need-cast-count
-cast-count c = omega (arith, count-most (c .before .before .before .before .before))
-
-array-borrow-prefix-scratch : tie.Need-array-borrow-prefix-scratch
-array-borrow-prefix-scratch c = row-within (c .before)
-
-slice-aggregate-open-rows : tie.Need-slice-aggregate-open-rows
-slice-aggregate-open-rows c = prefix-long (c .before .before .row-length .result) _ (row-within (c .before .before))
+cast-count c = omega (arith, count-most (c .before .before .before .before))
 
 slice-relend-prefix-open-rows : tie.Need-slice-relend-prefix-open-rows
-slice-relend-prefix-open-rows c = c .before .before .before .before .before .before .pre .1
+slice-relend-prefix-open-rows c = c .before .before .before .before .pre .1
 
-slice-aggregate-open-rows-2 : tie.Need-slice-aggregate-open-rows-2
-slice-aggregate-open-rows-2 c =
-    let s = c .before .before .before .before .before .before .before in prefix-long _ (now (s .args .out)) (s .pre .1)
+slice-aggregate-open-rows : tie.Need-slice-aggregate-open-rows
+slice-aggregate-open-rows c = let s = c .before .before .before .before .before in prefix-long _ (now (s .args .out)) (s .pre .1)
 
 open-rows-requires : tie.Need-open-rows-requires
-open-rows-requires c κs =
-    let r = c .before .before .before in
-    let s = r .before .before .before .before in
-    (s .pre .0, sym (prefix-long (r .row-length .result) _ (row-within r)) ∙ r .row-length .ensures, sym (prefix-long _ (now (s .args .out)) (s .pre .1)))
+open-rows-requires c κs = let s = c .before .before .before .before .before in (s .pre .0, sym (prefix-long _ (now (s .args .out)) (s .pre .1)))
 
 same-length : tie.Need-same-length
 same-length c = search needs
 
 returns : tie.Need-returns
 returns c =
-    let done = c .before .before .before in
-    let s = done .before .before .before .before .before .before .before .before in
-    put-in-front (done .open-rows .last .1 .1 .1 .0) _ (now (s .args .out)) _ (done .open-rows .ensures) (s .pre .1) (done .open-rows .kept .1 .1 .1 .0)
+    let done = c .before .before in
+    let s = done .before .before .before .before .before .before in
+    put-in-front (done .open-rows .last .1 .1 .0) _ (now (s .args .out)) _ (done .open-rows .ensures) (s .pre .1) (done .open-rows .kept .1 .1 .0)
 
 pub open-table-spec : {M : Type 1} → statement M
 open-table-spec =
     tie.close
     (tie.spec
-    row-length-requires
     mul-count
     cast-count
-    array-borrow-prefix-scratch
-    slice-aggregate-open-rows
     slice-relend-prefix-open-rows
-    slice-aggregate-open-rows-2
+    slice-aggregate-open-rows
     open-rows-requires
     same-length
     returns)

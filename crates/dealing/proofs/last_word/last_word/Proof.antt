@@ -1,24 +1,18 @@
 -- `dealing::last_word::last_word` meets its contract: piece, words, rows. Assumes nothing.
-use mathlib.Core.Path.{_≡_, _∙_}
+use mathlib.Core.Path.{_≡_, refl, _∙_}
 use Prim.Native.Nat.{ℕ, _+_, _*_, _-_, _/_, _%_, _≤_}
 use native.Mathlib.Omega.{arith}
 use lib.ListN.{length}
 use denote.Ref.{now}
+use Rattle.xor.proofs.Laws.{good-by-entries}
 use Rattle.grid.specs.Grid.{board, columns, row-long}
 use Rattle.grid.specs.Code.{board-of}
 use Rattle.grid.proofs.Facts.{board-in, columns-pos, grid-row-in}
 use Rattle.grid.proofs.Sizes.{row-most}
-use Rattle.dealing.proofs.Cuts.{rest-long}
 use Rattle.dealing.proofs.LastWord.{cell-room, seeds-room, word-steps}
 use borrow.Author.Needs.{needs}
 use Rattle.dealing.proofs.last_word.last_word.Statement.{statement}
 use Rattle.dealing.proofs.last_word.last_word.Tie as tie
-use Rattle.dealing.proofs.last_word.last_word.Reads as reads
-use Rattle.dealing.proofs.last_word.last_word.Lts as lts
-use Rattle.dealing.proofs.last_word.put_piece.Reads as put-piece-reads
-use Rattle.dealing.proofs.last_word.xor_expanded.Reads as xor-expanded-reads
-use Rattle.dealing.proofs.last_word.xor_words.Reads as xor-words-reads
-use Rattle.grid.proofs.board.Board.columns.Reads as columns-reads
 
 -- the value's cell lies in the word
 cell-there : (s : tie.Start) → let a = s .args in a .point % a .board .width * a .board .«value_bytes» + length (now (a .value)) ≤ length (now (a .out))
@@ -81,26 +75,34 @@ cast-from c =
     let f = board-in b (s .pre .0) in
     omega (arith, grid-row-in b f (s .args .point) (s .pre .1), f .rows-most)
 
+-- the point's grid row of seeds lies in them
+row-there : (c : tie.After-struct-known3) → let a = c .before .before .before .before .before .before .before .before .before .before .before .before .before .before .before .before .args in let J = c .before .before .before .before .before .before .before .before .before .before .before .columns .result in
+    32 * (a .point / a .board .width * J) + 32 * J ≤ length (now (a .seeds))
+row-there c = seeds-there (c .before .before .before .before .before .before .before .before .before .before .before .before .before .before .before .before) (c .before .before .before .before .before .before .before .before .before .before .before .columns .result) (c .before .before .before .before .before .before .before .before .before .before .before .columns .ensures)
+
 mul-from : tie.Need-mul-from
-mul-from c = omega (arith, seeds-there (c .before .before .before .before .before .before .before .before .before .before .before .before .before .before .before .before) (c .before .before .before .before .before .before .before .before .before .before .before .columns .result) (c .before .before .before .before .before .before .before .before .before .before .before .columns .ensures))
+mul-from c = omega (arith, row-there c)
 
 mul-from-2 : tie.Need-mul-from-2
-mul-from-2 c = omega (arith, seeds-there (c .before .before .before .before .before .before .before .before .before .before .before .before .before .before .before .before) (c .before .before .before .before .before .before .before .before .before .before .before .columns .result) (c .before .before .before .before .before .before .before .before .before .before .before .columns .ensures))
+mul-from-2 c = omega (arith, row-there c)
 
-sub-xor-expanded : tie.Need-sub-xor-expanded
-sub-xor-expanded c = omega (arith, seeds-there (c .before .before .before .before .before .before .before .before .before .before .before .before .before .before .before .before .before) (c .before .before .before .before .before .before .before .before .before .before .before .before .columns .result) (c .before .before .before .before .before .before .before .before .before .before .before .before .columns .ensures))
+mul-end : tie.Need-mul-end
+mul-end c = omega (arith, row-there c)
 
-part-xor-expanded-start : tie.Need-part-xor-expanded-start
-part-xor-expanded-start c = omega (arith, seeds-there (c .before .before .before .before .before .before .before .before .before .before .before .before .before .before .before .before .before) (c .before .before .before .before .before .before .before .before .before .before .before .before .columns .result) (c .before .before .before .before .before .before .before .before .before .before .before .before .columns .ensures))
+add-end : tie.Need-add-end
+add-end c = omega (arith, row-there c)
 
-part-xor-expanded-end : tie.Need-part-xor-expanded-end
-part-xor-expanded-end c = search needs
+sub-xor-rows : tie.Need-sub-xor-rows
+sub-xor-rows c = omega (arith, row-there c)
 
-xor-expanded-requires : tie.Need-xor-expanded-requires
-xor-expanded-requires c κs =
-    let s = c .before .before .before .before .before .before .before .before .before .before .before .before .before .before .before .before .before .before in
-    let J = c .before .before .before .before .before .before .before .before .before .before .before .before .before .columns in
-    (omega (arith, word-small s, c .before .before .before .before .before .xor-words .kept .0, c .before .before .before .before .before .before .before .before .before .put-piece .kept .0), rest-long _ (32 * J .result) (now (s .args .seeds)) (seeds-there s (J .result) (J .ensures)))
+part-xor-rows-start : tie.Need-part-xor-rows-start
+part-xor-rows-start c = omega (arith, row-there c)
+
+part-xor-rows-end : tie.Need-part-xor-rows-end
+part-xor-rows-end c = omega (arith, row-there c)
+
+xor-rows-requires : tie.Need-xor-rows-requires
+xor-rows-requires c κs = omega (arith, word-small (c .before .before .before .before .before .before .before .before .before .before .before .before .before .before .before .before .before .before), c .before .before .before .before .before .xor-words .kept .0, c .before .before .before .before .before .before .before .before .before .put-piece .kept .0)
 
 same-length : tie.Need-same-length
 same-length c = search needs
@@ -108,15 +110,17 @@ same-length c = search needs
 returns : tie.Need-returns
 unfolding board
 returns c =
+    let place = c .before .before .before .before .before in
     let s = c .before .before .before .before .before .before .before .before .before .before .before .before .before .before .before .before .before .before .before .before .before in
     let a = s .args in
     let b = board-of (a .board) in
     let J = c .before .before .before .before .before .before .before .before .before .before .before .before .before .before .before .before .columns in
     let piece-made = c .before .before .before .before .before .before .before .before .before .before .before .before .put-piece in
     let words-in = c .before .before .before .before .before .before .before .before .xor-words in
+    let long = words-in .kept .0 ∙ piece-made .kept .0 in
     word-steps b (board-in b (s .pre .0)) (a .point) (now (a .value)) (now (a .seeds)) (now (a .words)) (s .pre .1) (s .pre .2)
-    _ _ _ (J .result) (s .pre .5) (piece-made .kept .0 ∙ s .pre .5) (words-in .kept .0 ∙ piece-made .kept .0 ∙ s .pre .5) (J .ensures)
-    (piece-made .ensures) (words-in .ensures) (c .before .before .xor-expanded .ensures)
+    _ _ _ (J .result) (s .pre .5) (piece-made .kept .0 ∙ s .pre .5) (long ∙ s .pre .5) (J .ensures)
+    (piece-made .ensures) (words-in .ensures) (row-there place) refl (good-by-entries _ (λ i within. c .before .before .before .before .before .before .slice-known3 .given i .fits)) (c .before .before .xor-rows .ensures)
 
 pub last-word-spec : {M : Type 1} → statement M
 last-word-spec =
@@ -133,9 +137,11 @@ last-word-spec =
     cast-from
     mul-from
     mul-from-2
-    sub-xor-expanded
-    part-xor-expanded-start
-    part-xor-expanded-end
-    xor-expanded-requires
+    mul-end
+    add-end
+    sub-xor-rows
+    part-xor-rows-start
+    part-xor-rows-end
+    xor-rows-requires
     same-length
     returns)

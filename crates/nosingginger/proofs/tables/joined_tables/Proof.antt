@@ -1,49 +1,114 @@
--- `nosingginger::tables::joined_tables` meets its contract: one scratch row of 4,096 bytes serves every key. Assumes nothing.
-use mathlib.Core.Path.{sym, _∙_}
-use Prim.Native.Nat.{_≤_}
+-- `nosingginger::tables::joined_tables` meets its contract. The loop's invariant: the tables of the keys from place `end` on are joined.
+-- Assumes nothing.
+use mathlib.Core.Path.{_≡_, refl, sym, ap, _∙_}
+use Prim.Native.Nat.{ℕ, _*_, _-_, _≤_}
 use native.Mathlib.Omega.{arith}
+use lib.ListN.{length, drop}
+use denote.Ref.{now}
+use Rattle.grid.specs.Grid.{board}
 use Rattle.grid.specs.Code.{board-of}
-use Rattle.grid.proofs.Facts.{board-in}
-use Rattle.grid.proofs.Sizes.{row-most}
-use Rattle.opening.proofs.Bodies.{prefix-long}
+use Rattle.nosingginger.specs.JoinKeys.{joined-table}
+use Rattle.nosingginger.proofs.Joining.{inside}
+use Rattle.nosingginger.proofs.InTurn.{key-before}
+use Rattle.nosingginger.proofs.JoinedTables.{tables-none, table-more, tables-all}
 use borrow.Author.Needs.{needs}
 use Rattle.nosingginger.proofs.tables.joined_tables.Statement.{statement}
 use Rattle.nosingginger.proofs.tables.joined_tables.Tie as tie
 
--- the scratch row has room for a row
-row-within : (c : tie.After-row-length) → c .row-length .result ≤ 4096
-row-within c =
-    let s = c .before .before .before in
-    omega (arith, c .row-length .ensures, row-most _ (board-in (board-of (s .args .board)) (s .pre .0)))
+abbrev Inv-loop : tie.InvT-loop
+Inv-loop board keys out₀ long player₀ end₀ out player end =
+    (player ≤ board .players) × (end ≡ player * long) × (length out ≡ length out₀) × (out ≡ joined-table (board .players - player) (board-of board) (drop end keys))
 
-row-length-requires : tie.Need-row-length-requires
-row-length-requires c κs = search needs
+abbrev μ-loop : tie.MeasureT-loop
+μ-loop board keys out₀ long player₀ end₀ out player end = player
 
-array-borrow-prefix-scratch : tie.Need-array-borrow-prefix-scratch
-array-borrow-prefix-scratch c = row-within c
+-- the function's entry, from the place before the loop
+abbrev entry : tie.After-key-length Inv-loop μ-loop → tie.Start Inv-loop μ-loop
+entry c = c .before .before .before .before .before .before .before
 
-slice-aggregate-xor-tables : tie.Need-slice-aggregate-xor-tables
-slice-aggregate-xor-tables c = prefix-long (c .before .row-length .result) _ (row-within (c .before))
+whole : (c : tie.After-key-length Inv-loop μ-loop) → length (now (entry c .args .keys)) ≡ entry c .args .board .players * c .key-length .result
+whole c = entry c .pre .1 ∙ ap (λ (n : ℕ). entry c .args .board .players * n) (sym (c .key-length .ensures))
 
-xor-tables-requires : tie.Need-xor-tables-requires
-xor-tables-requires c κs =
-    let r = c .before .before in
-    let s = r .before .before .before in
-    (s .pre .0, s .pre .1, s .pre .2, s .pre .3, sym (prefix-long (r .row-length .result) _ (row-within r)) ∙ r .row-length .ensures)
+-- the key before `end` stands among the keys
+within : (c : tie.In-loop Inv-loop μ-loop) → (c .before .before .key-length .result ≤ c .before .loop .end)
+    × (c .before .loop .end ≤ length (now (entry (c .before .before) .args .keys)))
+within c = let l = c .before .loop in inside refl (omega (arith, c .loop-test .taken)) (l .inv .0) (l .inv .1) (whole (c .before .before))
 
-same-length : tie.Need-same-length
-same-length c = search needs
+clear-requires : tie.Need-clear-requires Inv-loop μ-loop
+clear-requires c κs = search needs
 
-returns : tie.Need-returns
-returns c = search needs
+key-length-requires : tie.Need-key-length-requires Inv-loop μ-loop
+key-length-requires c κs = c .before .before .before .before .before .before .pre .0
+
+loop-holds : tie.Need-loop-holds Inv-loop μ-loop
+unfolding board
+loop-holds c =
+    let cleared = c .before .before .before in
+    let s = entry c in
+    (omega arith, whole c, refl, tables-none _ _ _ _ (now (s .args .out)) (cleared .clear .ensures) (s .pre .3))
+
+sub-start : tie.Need-sub-start Inv-loop μ-loop
+sub-start c = omega (arith, within c)
+
+sub-add-rows : tie.Need-sub-add-rows Inv-loop μ-loop
+sub-add-rows c = omega (arith, within c)
+
+part-add-rows-start : tie.Need-part-add-rows-start Inv-loop μ-loop
+part-add-rows-start c = omega (arith, within c)
+
+part-add-rows-end : tie.Need-part-add-rows-end Inv-loop μ-loop
+part-add-rows-end c = within c .1
+
+add-rows-requires : tie.Need-add-rows-requires Inv-loop μ-loop
+add-rows-requires c κs =
+    let p = c .before .before in
+    let l = p .before .loop in
+    let m = p .before .before in
+    let s = entry m in
+    let key = key-before (board-of (s .args .board)) (now (s .args .keys)) _ (l .player) _ (l .end) (s .pre .1) (s .pre .2) (m .key-length .ensures) (omega (arith, p .loop-test .taken)) (l .inv .0) (l .inv .1) in
+    (record { accepted = key .0; board-is = key .1; player-is = key .2 }, l .inv .2 ∙ m .before .before .before .clear .kept .0 ∙ s .pre .3)
+
+sub-player : tie.Need-sub-player Inv-loop μ-loop
+sub-player c = omega arith
+
+loop-less : tie.Need-loop-less Inv-loop μ-loop
+loop-less c = omega arith
+
+loop-again : tie.Need-loop-again Inv-loop μ-loop
+loop-again c =
+    let added = c .before .before in
+    let p = added .before .before .before in
+    let l = p .before .loop in
+    let m = p .before .before in
+    let s = entry m in
+    let more = table-more (s .args .board .players) (l .player) _ (l .end) (board-of (s .args .board)) (now (s .args .keys)) (l .out) _ (m .key-length .ensures) (omega (arith, p .loop-test .taken)) (l .inv .0) (l .inv .1) (l .inv .3)
+    (added .add-rows .ensures) in (omega arith, more .0, added .add-rows .kept .1 .1 .0 ∙ l .inv .2, more .1)
+
+same-length : tie.Need-same-length Inv-loop μ-loop
+same-length c = c .before .loop .inv .2 ∙ c .before .before .before .before .before .clear .kept .0
+
+returns : tie.Need-returns Inv-loop μ-loop
+returns c =
+    let l = c .before .loop in
+    let s = entry (c .before .before) in
+    tables-all (s .args .board .players) (l .player) _ (l .end) (board-of (s .args .board)) (now (s .args .keys)) (l .out) (c .loop-test .left) (l .inv .1) (l .inv .3)
 
 pub joined-tables-spec : {M : Type 1} → statement M
 joined-tables-spec =
     tie.close
     (tie.spec
-    row-length-requires
-    array-borrow-prefix-scratch
-    slice-aggregate-xor-tables
-    xor-tables-requires
+    Inv-loop
+    μ-loop
+    clear-requires
+    key-length-requires
+    loop-holds
+    sub-player
+    sub-start
+    sub-add-rows
+    part-add-rows-start
+    part-add-rows-end
+    add-rows-requires
+    loop-less
+    loop-again
     same-length
     returns)
