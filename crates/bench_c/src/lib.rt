@@ -9,5 +9,5 @@ pub extern "C" fn bench_expand(seed: &[u8], out: &mut [u8])
     requires { ⌜ (length (now seed) ≡ 32) × (length (now out) ≤ 4096) ⌝ }
     ensures { λ r. ⌜ now (out .exit) ≡ expand (length (now (out .entry))) (now (seed .entry)) ⌝ }
 {
-    chacha20::expand(seed, out);
+    rows::expand(seed, out);
 }

@@ -1,11 +1,11 @@
 // ChaCha20 by RFC 8439, to be held beside it: section 2.1's quarter round, 2.3's double round and block function, 2.4's key stream,
-// under the RFC's names and in its order. `expand` makes a row from a seed: the key stream with the seed as key, the nonce twelve
-// zeros and the block counter from 0. The meanings stand in specs/Expand.antt and specs/Rfc8439.antt. Assumes nothing.
+// under the RFC's names and in its order. Document 01's rows are the key stream with the seed as key, the nonce twelve zeros and the
+// block counter from 0: crate rows makes them. The meanings stand in specs/Expand.antt and specs/Rfc8439.antt. Assumes nothing.
 ghost use mathlib.Core.Path.{_≡_};
 ghost use Prim.Native.Nat.{_+_, _/_, _^_, _<_, _≤_};
 ghost use mathlib.Core.List.{[], _∷_};
 ghost use lib.ListN.{length, take};
-ghost use Rattle.chacha20.specs.Expand.{turned, xor-word, mixed, double-round, rounds, word-at, sums, low-bytes, expand};
+ghost use Rattle.chacha20.specs.Expand.{turned, xor-word, mixed, double-round, rounds, word-at, sums, low-bytes};
 ghost use Rattle.chacha20.specs.Rfc8439.{Places, quarter-at, opening-state, chacha20-block, key-stream};
 
 // 2.3: the quarter rounds of a double round, each by its four places in the state: a column round, then a diagonal round.
@@ -219,13 +219,4 @@ pub fn key_stream(key: &[u8], counter: u32, nonce: &[u8], out: &mut [u8])
     if done < out.len() {
         short_block(key, next, nonce, &mut out[done..]);
     }
-}
-
-// Document 01, "Rows from seeds": the seed is the key, the nonce twelve zero bytes, and the block counter starts at 0.
-pub fn expand(seed: &[u8], out: &mut [u8])
-    requires { ⌜ (length (now seed) ≡ 32) × (length (now out) ≤ 4096) ⌝ }
-    ensures { λ r. ⌜ now (out .exit) ≡ expand (length (now (out .entry))) (now (seed .entry)) ⌝ }
-{
-    let nonce = [0u8; 12];
-    key_stream(seed, 0, &nonce, out);
 }
