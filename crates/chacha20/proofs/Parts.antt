@@ -1,7 +1,7 @@
--- A list that is written part by part from the front, and the sums of two states written so, word by word. Assumes nothing.
+-- A list that is written part by part from the front, the sums of two states, and the bytes of a state written so. Assumes nothing.
 use mathlib.Core.Path.{_≡_, refl, sym, ap, _∙_}
 use mathlib.Core.List.{List, [], _∷_, _++_, append-assoc, append-nil}
-use Prim.Native.Nat.{ℕ, zero, suc, _+_, _*_, _-_, _%_, _^_, _<_, _≤_}
+use Prim.Native.Nat.{ℕ, zero, suc, _+_, _*_, _-_, _<_, _≤_}
 use native.Mathlib.Omega.{arith}
 use native.Mathlib.Nat.{not-suc-le-zero}
 use native.Mathlib.Numerals.{add-one}
@@ -27,7 +27,7 @@ length-sums [] ys h = refl
 length-sums (x ∷ xs) [] h = sym h
 length-sums (x ∷ xs) (y ∷ ys) h = ap suc (length-sums xs ys (omega arith))
 
-getD-sums : (xs ys : List ℕ) (i : ℕ) → length xs ≡ length ys → i < length xs → getD (sums xs ys) i 0 ≡ add (getD xs i 0) (getD ys i 0)
+pub getD-sums : (xs ys : List ℕ) (i : ℕ) → length xs ≡ length ys → i < length xs → getD (sums xs ys) i 0 ≡ add (getD xs i 0) (getD ys i 0)
 unfolding sums
 getD-sums [] ys i h p = absurd (not-suc-le-zero p)
 getD-sums (x ∷ xs) [] i h p = let none : ⊥ = omega arith in absurd none
@@ -46,23 +46,18 @@ unfolding low-bytes
 low-bytes-append [] ys = refl
 low-bytes-append (x ∷ xs) ys = rw (low-bytes-append xs ys)
 
--- a turn of the loop that serializes the sums: the next word's bytes are written
-module _ (state initial old out part : List ℕ) (i sum : ℕ) (long : length state ≡ 16) (initial-long : length initial ≡ 16) where
-  pub next-word : i < 16 → out ≡ low-bytes (take i (sums state initial)) ++ drop (4 * i) old →
-      sum ≡ (getD state i 0 + getD initial i 0) % 2 ^ 32 → part ≡ low-bytes (sum ∷ []) →
-      putMid (4 * i) (4 * i + 4 - 4 * i) out part ≡ low-bytes (take (i + 1) (sums state initial)) ++ drop (4 * (i + 1)) old
-  unfolding add
-  next-word h so-far sum-is part-is =
-      let all : length (sums state initial) ≡ 16 = length-sums state initial (long ∙ sym initial-long) ∙ long in
-      let front : length (low-bytes (take i (sums state initial))) ≡ 4 * i = length-low-bytes (take i (sums state initial)) ∙ ap (λ (n : ℕ). 4 * n) (length-take-le i (sums state initial) (omega arith)) in
-      let word : sum ≡ getD (sums state initial) i 0 = sum-is ∙ sym (getD-sums state initial i (long ∙ sym initial-long) (omega arith)) in
+-- a turn of the loop that serializes a state: the next word's bytes are written
+module _ (words old out part : List ℕ) (i : ℕ) (long : length words ≡ 16) where
+  pub next-word : i < 16 → out ≡ low-bytes (take i words) ++ drop (4 * i) old → part ≡ low-bytes (getD words i 0 ∷ []) →
+      putMid (4 * i) (4 * i + 4 - 4 * i) out part ≡ low-bytes (take (i + 1) words) ++ drop (4 * (i + 1)) old
+  next-word h so-far part-is =
+      let front : length (low-bytes (take i words)) ≡ 4 * i = length-low-bytes (take i words) ∙ ap (λ (n : ℕ). 4 * n) (length-take-le i words (omega arith)) in
       let next : 4 * (i + 1) ≡ 4 * i + 4 = omega arith in
-      part-written (low-bytes (take i (sums state initial))) old out part (4 * i) (4 * i + 4) front (omega arith) so-far
-      ∙ rw (part-is, word, next, add-one i, take-suc (sums state initial) i 0 (omega arith), low-bytes-append (take i (sums state initial)) (getD (sums state initial) i 0 ∷ []))
+      part-written (low-bytes (take i words)) old out part (4 * i) (4 * i + 4) front (omega arith) so-far
+      ∙ rw (part-is, next, add-one i, take-suc words i 0 (omega arith), low-bytes-append (take i words) (getD words i 0 ∷ []))
 
   -- after the last turn all words are written
-  pub all-words : i ≡ 16 → length old ≡ 64 → out ≡ low-bytes (take i (sums state initial)) ++ drop (4 * i) old → out ≡ low-bytes (sums state initial)
+  pub all-words : i ≡ 16 → length old ≡ 64 → out ≡ low-bytes (take i words) ++ drop (4 * i) old → out ≡ low-bytes words
   all-words h whole so-far =
-      let all : length (sums state initial) ≡ 16 = length-sums state initial (long ∙ sym initial-long) ∙ long in
       so-far
-      ∙ rw (take-all i (sums state initial) (omega arith), drop-of-length-le old {i = 4 * i} (omega arith)) (append-nil (low-bytes (sums state initial)))
+      ∙ rw (take-all i words (omega arith), drop-of-length-le old {i = 4 * i} (omega arith)) (append-nil (low-bytes words))

@@ -35,8 +35,8 @@ no-round-left done s s₀ h so-far =
     let left : 10 - done ≡ 0 = omega arith in
     rw left at so-far
 
--- the block function's three steps
-pub three-steps : (key nonce : List ℕ) (counter : ℕ) (initial state out : List ℕ) → initial ≡ opening-state key counter nonce → state ≡ rounds 10 initial → out ≡ low-bytes (sums state initial) →
-    out ≡ chacha20-block key counter nonce
+-- the block function's four steps
+pub four-steps : (key nonce : List ℕ) (counter : ℕ) (initial state summed out : List ℕ) →
+    initial ≡ opening-state key counter nonce → state ≡ rounds 10 initial → summed ≡ sums state initial → out ≡ low-bytes summed → out ≡ chacha20-block key counter nonce
 unfolding chacha20-block
-three-steps key nonce counter initial state out p q r = rw (r, q, p)
+four-steps key nonce counter initial state summed out p q r s = rw (s, r, q, p)

@@ -41,7 +41,7 @@ length-mixed : (a b d n : ℕ) (xs : List ℕ) → length (mixed a b d n xs) ≡
 unfolding mixed
 length-mixed a b d n xs = simp length-set
 
-length-quarter : (a b c d : ℕ) (xs : List ℕ) → length (quarter a b c d xs) ≡ length xs
+pub length-quarter : (a b c d : ℕ) (xs : List ℕ) → length (quarter a b c d xs) ≡ length xs
 unfolding quarter
 length-quarter a b c d xs = simp length-mixed
 
@@ -164,7 +164,7 @@ part-of-expand s e seed h =
 
 -- WRITING the key stream block by block
 
-stream-one : (c : ℕ) (key nonce : List ℕ) → stream-blocks 1 c key nonce ≡ chacha20-block key c nonce
+pub stream-one : (c : ℕ) (key nonce : List ℕ) → stream-blocks 1 c key nonce ≡ chacha20-block key c nonce
 unfolding stream-blocks
 stream-one c key nonce = append-nil (chacha20-block key c nonce)
 
@@ -173,7 +173,7 @@ unfolding key-stream
 key-stream-none c key nonce = refl
 
 -- at most a block of the key stream
-key-stream-short : (n c : ℕ) (key nonce : List ℕ) → n ≤ 64 → key-stream n c key nonce ≡ take n (chacha20-block key c nonce)
+pub key-stream-short : (n c : ℕ) (key nonce : List ℕ) → n ≤ 64 → key-stream n c key nonce ≡ take n (chacha20-block key c nonce)
 key-stream-short n c key nonce h =
     sym (key-stream-of n 1 c key nonce (omega arith)) ∙ ap (λ (l : List ℕ). take n l) (stream-one c key nonce)
 
@@ -198,22 +198,22 @@ module _ (key nonce : List ℕ) (counter : ℕ) (old out : List ℕ) (next done 
   now-counter : counter + (next - counter) ≡ next
   now-counter = let passed = w .passed in omega arith
 
-  -- a turn of the loop: the next block is written
-  pub next-block : (part : List ℕ) → 64 ≤ length out - done → length part ≡ length (midOf done (done + 64 - done) out) → part ≡ chacha20-block key next nonce →
-      Written key nonce counter old (putMid done (done + 64 - done) out part) (next + 1) (done + 64)
-  next-block part room long part-is =
+  -- a turn of a loop: the next k blocks are written
+  pub next-blocks : (k after end : ℕ) (part : List ℕ) → after ≡ next + k → end ≡ done + 64 * k → end ≤ length out →
+      length part ≡ length (midOf done (end - done) out) → part ≡ stream-blocks k next key nonce → Written key nonce counter old (putMid done (end - done) out part) after end
+  next-blocks k after end part after-is end-is room long part-is =
       let passed = w .passed in
       let place = w .place in
       let same = w .same in
-      let one-more : next + 1 - counter ≡ next - counter + 1 = omega arith in
+      let more : after - counter ≡ next - counter + k = omega arith in
       record {
         passed = omega arith;
         place = omega arith;
         within = omega arith;
-        same = same-len-mid done (done + 64 - done) out part long ∙ same;
+        same = same-len-mid done (end - done) out part long ∙ same;
         so-far =
-            part-written (stream-blocks (next - counter) counter key nonce) old out part done (done + 64) written-long (omega arith) (w .so-far)
-            ∙ rw (part-is, one-more, stream-add (next - counter) 1 counter key nonce, now-counter, stream-one next key nonce);
+            part-written (stream-blocks (next - counter) counter key nonce) old out part done end written-long (omega arith) (w .so-far)
+            ∙ rw (part-is, more, stream-add (next - counter) k counter key nonce, now-counter);
       }
 
   -- where `out` ends with a block, it is the key stream
@@ -226,8 +226,8 @@ module _ (key nonce : List ℕ) (counter : ℕ) (old out : List ℕ) (next done 
       w .so-far
       ∙ rw (drop-of-length-le old {i = done} (omega arith), end, key-stream-add (next - counter) 0 counter key nonce, key-stream-none (counter + (next - counter)) key nonce)
 
-  -- and where it does not, it is once the part of a block that has room is written
-  pub cut : (part : List ℕ) → length out - done < 64 → part ≡ take (length (midOf done (length out - done) out)) (chacha20-block key next nonce) →
+  -- and once what comes behind the blocks is written, it is
+  pub cut : (part : List ℕ) → done ≤ length out → part ≡ key-stream (length (midOf done (length out - done) out)) next key nonce →
       putMid done (length out - done) out part ≡ key-stream (length old) counter key nonce
   cut part room part-is =
       let place = w .place in
@@ -237,7 +237,7 @@ module _ (key nonce : List ℕ) (counter : ℕ) (old out : List ℕ) (next done 
       let rest = length out - done in
       let end : 64 * (next - counter) + rest ≡ length old = omega arith in
       let all : front ++ part ++ drop (length out) old ≡ front ++ part = rw (drop-of-length-le old {i = length out} (omega arith)) (append-nil (front ++ part)) in
-      let short : part ≡ key-stream rest (counter + (next - counter)) key nonce = rw now-counter (part-is ∙ rw (mid-len done (length out) out (omega arith)) (sym (key-stream-short rest next key nonce (omega arith)))) in
+      let short : part ≡ key-stream rest (counter + (next - counter)) key nonce = rw now-counter (part-is ∙ ap (λ (n : ℕ). key-stream n next key nonce) (mid-len done (length out) out (omega arith))) in
       part-written front old out part done (length out) written-long (omega arith) (w .so-far) ∙ all ∙ ap (λ (l : List ℕ). front ++ l) short
       ∙ sym (key-stream-add (next - counter) rest counter key nonce)
       ∙ ap (λ (n : ℕ). key-stream n counter key nonce) end

@@ -9,7 +9,7 @@ ghost use Rattle.chacha20.specs.Expand.{turned, xor-word, mixed, double-
 ghost use Rattle.chacha20.specs.Rfc8439.{Places, quarter-at, opening-state, chacha20-block, key-stream};
 
 // 2.3: the quarter rounds of a double round, each by its four places in the state: a column round, then a diagonal round.
-const QUARTER_ROUNDS: [[usize; 4]; 8] = [
+pub const QUARTER_ROUNDS: [[usize; 4]; 8] = [
     [0, 4, 8, 12],
     [1, 5, 9, 13],
     [2, 6, 10, 14],
@@ -30,7 +30,7 @@ fn xor_roll(word: u32, sum: u32, roll: u32) -> u32
 }
 
 // 2.1, one of the four lines: a += b; d ^= a; d <<<= roll
-fn half_step(state: [u32; 16], a: usize, b: usize, d: usize, roll: u32) -> [u32; 16]
+pub fn half_step(state: [u32; 16], a: usize, b: usize, d: usize, roll: u32) -> [u32; 16]
     requires { ⌜ (a < 16) × (b < 16) × (d < 16) × (0 < roll) × (roll < 32) ⌝ }
     ensures { λ r. ⌜ r ≡ mixed a b d roll state ⌝ }
 {
@@ -97,18 +97,29 @@ fn put_word(word: u32, out: &mut [u8])
     out[3] = (word / 16777216) as u8;
 }
 
-// 2.3: the initial state added to the state, and the sums serialized
-fn serialize(state: [u32; 16], initial: [u32; 16], out: &mut [u8])
+// 2.3: word by word, the input words added to the output words
+pub fn add_into(out: &mut [u32], input: &[u32])
+    requires { ⌜ length (now out) ≡ length (now input) ⌝ }
+    ensures { λ r. ⌜ now (out .exit) ≡ sums (now (out .entry)) (now (input .entry)) ⌝ }
+{
+    let mut i: usize = 0;
+    while i < out.len() {
+        let sum = std::num::wrapping_add_u32(out[i], input[i]);
+        out[i] = sum;
+        i += 1;
+    }
+}
+
+// 2.3: a state's words, serialized one by one
+pub fn serialize(state: [u32; 16], out: &mut [u8])
     requires { ⌜ length (now out) ≡ 64 ⌝ }
-    ensures { λ r. ⌜ now (out .exit) ≡ low-bytes (sums state initial) ⌝ }
+    ensures { λ r. ⌜ now (out .exit) ≡ low-bytes state ⌝ }
 {
     let mut i: usize = 0;
     while i < 16 {
-        let word = state[i];
-        let sum = std::num::wrapping_add_u32(word, initial[i]);
         let from = 4 * i;
         let to = from + 4;
-        put_word(sum, &mut out[from..to]);
+        put_word(state[i], &mut out[from..to]);
         i += 1;
     }
 }
@@ -134,7 +145,7 @@ fn load(bytes: &[u8], place: usize) -> u32
 }
 
 // 2.3: the constant, the key, the block counter and the nonce
-fn initial_state(key: &[u8], counter: u32, nonce: &[u8]) -> [u32; 16]
+pub fn initial_state(key: &[u8], counter: u32, nonce: &[u8]) -> [u32; 16]
     requires { ⌜ (length (now key) ≡ 32) × (length (now nonce) ≡ 12) ⌝ }
     ensures { λ r. ⌜ r ≡ opening-state (now (key .entry)) counter (now (nonce .entry)) ⌝ }
 {
@@ -165,12 +176,13 @@ pub fn block(key: &[u8], counter: u32, nonce: &[u8], out: &mut [u8])
     ensures { λ r. ⌜ now (out .exit) ≡ chacha20-block (now (key .entry)) counter (now (nonce .entry)) ⌝ }
 {
     let initial = initial_state(key, counter, nonce);
-    let state = twenty_rounds(initial);
-    serialize(state, initial, out);
+    let mut state = twenty_rounds(initial);
+    add_into(&mut state, &initial);
+    serialize(state, out);
 }
 
 // Copies the first bytes of `bytes` into `out`, as many as it has room for.
-fn copy_front(bytes: &[u8], out: &mut [u8])
+pub fn copy_front(bytes: &[u8], out: &mut [u8])
     requires { ⌜ length (now out) ≤ length (now bytes) ⌝ }
     ensures { λ r. ⌜ now (out .exit) ≡ take (length (now (out .entry))) (now (bytes .entry)) ⌝ }
 {

@@ -112,7 +112,7 @@ pub fn expand_seed(seed: &[u8], output: &mut [u8]) -> u32
     if MOST_ROW_BYTES < output.len() {
         return REFUSED_EXPANSION;
     }
-    chacha20::expand(seed, output);
+    rows::expand(seed, output);
     ACCEPTED
 }
 

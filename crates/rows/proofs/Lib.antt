@@ -1,2 +1,4 @@
+pub mod OneRow
 pub mod Joined
 pub mod Seeds
+pub mod Fours

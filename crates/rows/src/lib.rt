@@ -1,17 +1,150 @@
-// Rows of seeds that stand one after another, XORed into an output: what opening XORs over a player's held seeds of a grid row, and dealing
-// over all seeds of the point's grid row. Assumes nothing.
+// Rows from seeds, by document 01: `expand` makes one row, and `xor_rows` XORs the rows of seeds that stand one after another into an output,
+// which is what opening does over a player's held seeds of a grid row, and dealing over all seeds of the point's grid row. Rows of more than
+// a block take four counters of a seed side by side, shorter ones four seeds; what is left over goes block by block. Assumes nothing.
 ghost use mathlib.Core.Path.{_≡_};
-ghost use Prim.Native.Nat.{_/_, _≤_};
-ghost use lib.ListN.{length};
-ghost use Rattle.xor.specs.Xor.{xors};
-ghost use Rattle.rows.specs.Rows.{rows-joined};
+ghost use Prim.Native.Nat.{_+_, _*_, _/_, _^_, _<_, _≤_};
+ghost use lib.ListN.{length, take};
+ghost use Rattle.xor.specs.Xor.{xors, zeros};
+ghost use Rattle.chacha20.specs.Expand.{blocks, expand};
+ghost use Rattle.chacha20.specs.Rfc8439.{key-stream};
+ghost use Rattle.rows.specs.Rows.{rows-joined, Next-end};
 
 // Bytes of a seed.
 const SEED_BYTES: usize = 32;
 
-// The same, by way of `row`, which has the output's length and is scratch: its bytes afterwards count for nothing.
-fn xor_rows_by(seeds: &[u8], row: &mut [u8], out: &mut [u8])
-    requires { ⌜ (length (now out) ≤ 4096) × (length (now row) ≡ length (now out)) ⌝ }
+// Bytes of a block of the key stream, and of four.
+const BLOCK_BYTES: usize = 64;
+
+const FOUR_BLOCKS_BYTES: usize = 256;
+
+// XORs the first bytes of `blocks` into `out`, as many as it has.
+fn xor_front(blocks: &[u8], out: &mut [u8])
+    requires { ⌜ length (now out) ≤ length (now blocks) ⌝ }
+    ensures { λ r. ⌜ now (out .exit) ≡ xors (now (out .entry)) (take (length (now (out .entry))) (now (blocks .entry))) ⌝ }
+{
+    let bytes = out.len();
+    xor::xor_into(out, &blocks[..bytes]);
+}
+
+// XORs the block of `counter` into `out`, which has at most its length.
+fn xor_block(seed: &[u8], counter: u32, out: &mut [u8])
+    requires { ⌜ (length (now seed) ≡ 32) × (length (now out) ≤ 64) ⌝ }
+    ensures { λ r. ⌜ now (out .exit) ≡ xors (now (out .entry)) (take (length (now (out .entry))) (blocks 1 counter (now (seed .entry)))) ⌝ }
+{
+    let nonce = [0u8; 12];
+    let mut made = [0u8; 64];
+    chacha20::block(seed, counter, &nonce, &mut made);
+    xor_front(&made, out);
+}
+
+// XORs the four blocks from `counter` on into `out`, which has at most their length.
+fn xor_four_blocks(seed: &[u8], counter: u32, out: &mut [u8])
+    requires { ⌜ (length (now seed) ≡ 32) × (counter + 4 < 2 ^ 32) × (length (now out) ≤ 256) ⌝ }
+    ensures { λ r. ⌜ now (out .exit) ≡ xors (now (out .entry)) (take (length (now (out .entry))) (blocks 4 counter (now (seed .entry)))) ⌝ }
+{
+    let mut made = [0u8; 256];
+    lanes::four_counters(seed, counter, &mut made);
+    xor_front(&made, out);
+}
+
+// Where the next four blocks end that begin at `done`, or the row of `all` bytes.
+fn next_end(done: usize, all: usize) -> usize
+    requires { ⌜ (done < all) × (all ≤ 4096) ⌝ }
+    ensures { λ r. ⌜ Next-end done all r ⌝ }
+{
+    if all - done < FOUR_BLOCKS_BYTES {
+        return all;
+    }
+    done + FOUR_BLOCKS_BYTES
+}
+
+// XORs the row of one seed into `out`: by four blocks while more than one is left, then by one.
+fn xor_row(seed: &[u8], out: &mut [u8])
+    requires { ⌜ (length (now seed) ≡ 32) × (length (now out) ≤ 4096) ⌝ }
+    ensures { λ r. ⌜ now (out .exit) ≡ xors (now (out .entry)) (expand (length (now (out .entry))) (now (seed .entry))) ⌝ }
+{
+    let mut done: usize = 0;
+    let mut counter: u32 = 0;
+    while BLOCK_BYTES < out.len() - done {
+        let end = next_end(done, out.len());
+        xor_four_blocks(seed, counter, &mut out[done..end]);
+        done = end;
+        counter += 4;
+    }
+    if done < out.len() {
+        xor_block(seed, counter, &mut out[done..]);
+    }
+}
+
+// The key stream from the block of `counter` on, of at most four blocks: four made together where more than one is asked for.
+fn put_rest(seed: &[u8], counter: u32, out: &mut [u8])
+    requires { ⌜ (length (now seed) ≡ 32) × (counter + 4 < 2 ^ 32) × (length (now out) ≤ 256) ⌝ }
+    ensures { λ r. ⌜ now (out .exit) ≡ key-stream (length (now (out .entry))) counter (now (seed .entry)) (zeros 12) ⌝ }
+{
+    if out.len() <= BLOCK_BYTES {
+        let nonce = [0u8; 12];
+        chacha20::key_stream(seed, counter, &nonce, out);
+        return;
+    }
+    let mut made = [0u8; 256];
+    lanes::four_counters(seed, counter, &mut made);
+    chacha20::copy_front(&made, out);
+}
+
+// Document 01, "Rows from seeds": the seed is the key, the nonce twelve zero bytes, and the block counter starts at 0.
+pub fn expand(seed: &[u8], out: &mut [u8])
+    requires { ⌜ (length (now seed) ≡ 32) × (length (now out) ≤ 4096) ⌝ }
+    ensures { λ r. ⌜ now (out .exit) ≡ expand (length (now (out .entry))) (now (seed .entry)) ⌝ }
+{
+    let mut next: u32 = 0;
+    let mut done: usize = 0;
+    while FOUR_BLOCKS_BYTES <= out.len() - done {
+        let end = done + FOUR_BLOCKS_BYTES;
+        lanes::four_counters(seed, next, &mut out[done..end]);
+        done = end;
+        next += 4;
+    }
+    put_rest(seed, next, &mut out[done..]);
+}
+
+// XORs the rows of four seeds into `out`, which has at most a block's length.
+fn xor_four(seeds: &[u8], out: &mut [u8])
+    requires { ⌜ (length (now seeds) ≡ 128) × (length (now out) ≤ 64) ⌝ }
+    ensures { λ r. ⌜ now (out .exit) ≡ xors (now (out .entry)) (rows-joined 4 (length (now (out .entry))) (now (seeds .entry))) ⌝ }
+{
+    let mut made = [0u8; 256];
+    lanes::four_seeds(seeds, &mut made);
+    let mut lane: usize = 0;
+    while lane < 4 {
+        let from = BLOCK_BYTES * lane;
+        let end = from + BLOCK_BYTES;
+        xor_front(&made[from..end], out);
+        lane += 1;
+    }
+}
+
+// XORs the rows of the seeds into `out` by fours, where it has at most a block's length, and answers how many seeds it took.
+fn xor_fours(seeds: &[u8], out: &mut [u8]) -> usize
+    requires { ⌜ length (now out) ≤ 4096 ⌝ }
+    ensures { λ r. ⌜ (32 * r ≤ length (now (seeds .entry))) × (now (out .exit) ≡ xors (now (out .entry)) (rows-joined r (length (now (out .entry))) (now (seeds .entry)))) ⌝ }
+{
+    let mut taken: usize = 0;
+    if BLOCK_BYTES < out.len() {
+        return taken;
+    }
+    let count = seeds.len() / SEED_BYTES;
+    while 4 <= count - taken {
+        let from = SEED_BYTES * taken;
+        let end = from + 4 * SEED_BYTES;
+        xor_four(&seeds[from..end], out);
+        taken += 4;
+    }
+    taken
+}
+
+// XORs the rows of the seeds into `out` one by one.
+fn xor_each(seeds: &[u8], out: &mut [u8])
+    requires { ⌜ length (now out) ≤ 4096 ⌝ }
     ensures { λ r. ⌜ now (out .exit) ≡ xors (now (out .entry)) (rows-joined (length (now (seeds .entry)) / 32) (length (now (out .entry))) (now (seeds .entry))) ⌝ }
 {
     let count = seeds.len() / SEED_BYTES;
@@ -19,8 +152,7 @@ fn xor_rows_by(seeds: &[u8], row: &mut [u8], out: &mut [u8])
     while seed < count {
         let from = SEED_BYTES * seed;
         let end = from + SEED_BYTES;
-        chacha20::expand(&seeds[from..end], row);
-        xor::xor_into(out, row);
+        xor_row(&seeds[from..end], out);
         seed += 1;
     }
 }
@@ -30,7 +162,7 @@ pub fn xor_rows(seeds: &[u8], out: &mut [u8])
     requires { ⌜ length (now out) ≤ 4096 ⌝ }
     ensures { λ r. ⌜ now (out .exit) ≡ xors (now (out .entry)) (rows-joined (length (now (seeds .entry)) / 32) (length (now (out .entry))) (now (seeds .entry))) ⌝ }
 {
-    let row_bytes = out.len();
-    let mut row = [0u8; 4096];
-    xor_rows_by(seeds, &mut row[..row_bytes], out);
+    let taken = xor_fours(seeds, out);
+    let from = SEED_BYTES * taken;
+    xor_each(&seeds[from..], out);
 }

@@ -1,10 +1,11 @@
 -- `chacha20::key_stream` meets its contract. The loop's invariant: whole blocks are written up to `done`, the rest is as it was lent. Assumes nothing.
-use mathlib.Core.Path.{_≡_, _∙_}
+use mathlib.Core.Path.{_≡_, sym, _∙_}
 use Prim.Native.Nat.{_+_, _-_}
 use native.Mathlib.Omega.{arith}
 use lib.ListN.{length}
-use borrow.Rule.Slice.PartMut.{mid-len, same-len-mid}
-use Rattle.chacha20.proofs.Stream.{Written, start, next-block, ended, cut}
+use denote.Ref.{now}
+use borrow.Rule.Slice.PartMut.{midOf, mid-len, same-len-mid}
+use Rattle.chacha20.proofs.Stream.{Written, start, next-blocks, ended, cut, stream-one, key-stream-short}
 use Rattle.chacha20.proofs.key_stream.Statement.{statement}
 use Rattle.chacha20.proofs.key_stream.Tie as tie
 
@@ -49,7 +50,9 @@ loop-again : tie.Need-loop-again Inv-loop μ-loop
 loop-again c =
     let l = c .before .before .before .before .before .loop in
     let put = c .before .before .block in
-    next-block _ _ _ _ (l .out) (l .next) (l .done) (l .inv) (put .last .1 .1 .1 .0) (omega arith) (put .kept .1 .1 .1 .0) (put .ensures)
+    let a = c .before .before .before .before .before .before .before .before .before .args in
+    let one = sym (stream-one (l .next) (now (a .key)) (now (a .nonce))) in
+    next-blocks (now (a .key)) (now (a .nonce)) _ _ (l .out) (l .next) (l .done) (l .inv) 1 _ _ (put .last .1 .1 .1 .0) (omega arith) (omega arith) (omega arith) (put .kept .1 .1 .1 .0) (put .ensures ∙ one)
 
 sub-short-block : tie.Need-sub-short-block Inv-loop μ-loop
 sub-short-block c = omega arith
@@ -76,7 +79,10 @@ returns : tie.Need-returns Inv-loop μ-loop
 returns c =
     let l = c .before .before .before .before .before .before .loop in
     let put = c .before .before .short-block in
-    cut _ _ _ _ (l .out) (l .next) (l .done) (l .inv) (put .last .1 .1 .1 .0) (omega arith) (put .ensures)
+    let a = c .before .before .before .before .before .before .before .before .before .before .args in
+    let long = mid-len (l .done) (length (l .out)) (l .out) (omega arith) in
+    let short = sym (key-stream-short (length (midOf (l .done) (length (l .out) - l .done) (l .out))) (l .next) (now (a .key)) (now (a .nonce)) (omega arith)) in
+    cut (now (a .key)) (now (a .nonce)) _ _ (l .out) (l .next) (l .done) (l .inv) (put .last .1 .1 .1 .0) (omega arith) (put .ensures ∙ short)
 
 same-length-2 : tie.Need-same-length-2 Inv-loop μ-loop
 same-length-2 c = c .before .before .loop .inv .same

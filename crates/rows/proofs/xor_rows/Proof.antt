@@ -1,39 +1,47 @@
--- `rows::xor_rows` meets its contract. Assumes nothing.
-use mathlib.Core.Path.{_≡_, sym}
-use Prim.Native.Nat.{ℕ, _≤_}
-use native.Mathlib.Omega.{arith}
-use lib.ListN.{length, take, replicate, length-replicate}
-use lib.Seq.{length-take-le}
-use denote.Ref.{now}
+-- `rows::xor_rows` meets its contract. What is taken by fours, and the seeds behind it. Assumes nothing.
 use borrow.Author.Needs.{needs}
+use lib.ListN.{length}
+use denote.Ref.{now}
+use Rattle.rows.proofs.Fours.{rest-more}
 use Rattle.rows.proofs.xor_rows.Statement.{statement}
 use Rattle.rows.proofs.xor_rows.Tie as tie
 
--- the front of the scratch row
-front-long : (n most : ℕ) → n ≤ most → length (take n (replicate {A = ℕ} most 0)) ≡ n
-front-long n most h = length-take-le n (replicate {A = ℕ} most 0) (omega (arith, length-replicate {A = ℕ} most 0))
+xor-fours-requires : tie.Need-xor-fours-requires
+xor-fours-requires c κs = search needs
 
-array-borrow-prefix-row : tie.Need-array-borrow-prefix-row
-array-borrow-prefix-row c = search needs
+mul-from : tie.Need-mul-from
+mul-from c = search needs
 
-slice-aggregate-xor-rows-by : tie.Need-slice-aggregate-xor-rows-by
-slice-aggregate-xor-rows-by c = let s = c .before .before .before in sym (front-long (length (now (s .args .out))) 4096 (s .pre))
+sub-xor-each : tie.Need-sub-xor-each
+sub-xor-each c = search needs
 
-xor-rows-by-requires : tie.Need-xor-rows-by-requires
-xor-rows-by-requires c κs = let s = c .before .before .before .before in (s .pre, front-long (length (now (s .args .out))) 4096 (s .pre))
+part-xor-each-start : tie.Need-part-xor-each-start
+part-xor-each-start c = search needs
+
+part-xor-each-end : tie.Need-part-xor-each-end
+part-xor-each-end c = search needs
+
+xor-each-requires : tie.Need-xor-each-requires
+xor-each-requires c κs = search needs
 
 same-length : tie.Need-same-length
 same-length c = search needs
 
 returns : tie.Need-returns
-returns c = search needs
+returns c =
+    let a = c .before .before .before .before .before .before .before .before .before .before .before .args in
+    let fours = c .before .before .before .before .before .before .before .xor-fours in
+    rest-more (now (a .seeds)) (fours .result) (length (now (a .out))) (now (a .out)) (length (fours .last .1 .0)) (fours .kept .1 .0) (fours .ensures .0) (fours .ensures .1) (c .before .before .xor-each .ensures)
 
 pub xor-rows-spec : {M : Type 1} → statement M
 xor-rows-spec =
     tie.close
     (tie.spec
-    array-borrow-prefix-row
-    slice-aggregate-xor-rows-by
-    xor-rows-by-requires
+    xor-fours-requires
+    mul-from
+    sub-xor-each
+    part-xor-each-start
+    part-xor-each-end
+    xor-each-requires
     same-length
     returns)

@@ -1,0 +1,31 @@
+-- `lanes::four_seeds` meets its contract. Four states, one of each seed, and their blocks. Assumes nothing.
+use borrow.Author.Needs.{needs}
+use denote.Ref.{now}
+use Rattle.lanes.proofs.Laid.{four-seeds}
+use Rattle.lanes.proofs.four_seeds.Statement.{statement}
+use Rattle.lanes.proofs.four_seeds.Tie as tie
+
+slice-aggregate-open-seeds : tie.Need-slice-aggregate-open-seeds
+slice-aggregate-open-seeds c = search needs
+
+open-seeds-requires : tie.Need-open-seeds-requires
+open-seeds-requires c κs = search needs
+
+four-blocks-requires : tie.Need-four-blocks-requires
+four-blocks-requires c κs = search needs
+
+same-length : tie.Need-same-length
+same-length c = search needs
+
+returns : tie.Need-returns
+returns c = four-seeds (now (c .before .before .before .before .before .before .before .before .before .args .seeds)) _ _ (c .before .before .before .before .before .open-seeds .ensures) (c .before .before .four-blocks .ensures)
+
+pub four-seeds-spec : {M : Type 1} → statement M
+four-seeds-spec =
+    tie.close
+    (tie.spec
+    slice-aggregate-open-seeds
+    open-seeds-requires
+    four-blocks-requires
+    same-length
+    returns)

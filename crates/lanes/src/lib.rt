@@ -1,0 +1,200 @@
+// Four blocks of ChaCha20 side by side, so that the compiler fills its vector registers: four counters of one seed, or four seeds at
+// counter 0. The four states stand in sixty-four words, word w of lane l at 4·w + l. A lane is taken out, goes through a double round as an
+// ordinary state and is put back, in a loop over the lanes that becomes one pass over vectors. Assumes nothing.
+ghost use mathlib.Core.Path.{_≡_};
+ghost use Prim.Native.Nat.{_+_, _*_, _^_, _<_};
+ghost use lib.ListN.{length, take, drop};
+ghost use Rattle.chacha20.specs.Expand.{double-round, rounds, opening, blocks};
+ghost use Rattle.lanes.specs.Lanes.{odd-lines, even-lines, Lines, lane-of, Side-by-side, Put, lanes-bytes, lanes-blocks, first-blocks};
+
+// A lane's state.
+fn lane(states: &[u32], l: usize) -> [u32; 16]
+    requires { ⌜ (length (now states) ≡ 64) × (l < 4) ⌝ }
+    ensures { λ r. ⌜ r ≡ lane-of l (now (states .entry)) ⌝ }
+{
+    let mut words = [0u32; 16];
+    let mut w: usize = 0;
+    while w < 16 {
+        let place = 4 * w + l;
+        words[w] = states[place];
+        w += 1;
+    }
+    words
+}
+
+// Puts a state into a lane; the other lanes stay.
+fn put_lane(states: &mut [u32], l: usize, words: [u32; 16])
+    requires { ⌜ (length (now states) ≡ 64) × (l < 4) ⌝ }
+    ensures { λ r. ⌜ Put l words (now (states .entry)) (now (states .exit)) ⌝ }
+{
+    let mut w: usize = 0;
+    while w < 16 {
+        let at = 4 * w + l;
+        states[at] = words[w];
+        w += 1;
+    }
+}
+
+// RFC 8439, 2.1: the first line of four quarter rounds, or the third.
+fn odd_lines(
+    state: [u32; 16],
+    p: [usize; 4],
+    q: [usize; 4],
+    r: [usize; 4],
+    s: [usize; 4],
+    roll: u32,
+) -> [u32; 16]
+    requires { ⌜ Lines p q r s roll ⌝ }
+    ensures { λ next. ⌜ next ≡ odd-lines p q r s roll state ⌝ }
+{
+    let first = chacha20::half_step(state, p[0], p[1], p[3], roll);
+    let second = chacha20::half_step(first, q[0], q[1], q[3], roll);
+    let third = chacha20::half_step(second, r[0], r[1], r[3], roll);
+    chacha20::half_step(third, s[0], s[1], s[3], roll)
+}
+
+// The second line of four quarter rounds, or the last.
+fn even_lines(
+    state: [u32; 16],
+    p: [usize; 4],
+    q: [usize; 4],
+    r: [usize; 4],
+    s: [usize; 4],
+    roll: u32,
+) -> [u32; 16]
+    requires { ⌜ Lines p q r s roll ⌝ }
+    ensures { λ next. ⌜ next ≡ even-lines p q r s roll state ⌝ }
+{
+    let first = chacha20::half_step(state, p[2], p[3], p[1], roll);
+    let second = chacha20::half_step(first, q[2], q[3], q[1], roll);
+    let third = chacha20::half_step(second, r[2], r[3], r[1], roll);
+    chacha20::half_step(third, s[2], s[3], s[1], roll)
+}
+
+// A double round of one lane at the places of chacha20's table: the four columns line by line together, then the four diagonals, so that
+// neighbouring lines do not wait for each other.
+fn double_round(state: [u32; 16]) -> [u32; 16]
+    ensures { λ r. ⌜ r ≡ double-round state ⌝ }
+{
+    let table = chacha20::QUARTER_ROUNDS;
+    let a = table[0];
+    let b = table[1];
+    let c = table[2];
+    let d = table[3];
+    let first = odd_lines(state, a, b, c, d, 16);
+    let second = even_lines(first, a, b, c, d, 12);
+    let third = odd_lines(second, a, b, c, d, 8);
+    let fourth = even_lines(third, a, b, c, d, 7);
+    let e = table[4];
+    let f = table[5];
+    let g = table[6];
+    let h = table[7];
+    let fifth = odd_lines(fourth, e, f, g, h, 16);
+    let sixth = even_lines(fifth, e, f, g, h, 12);
+    let seventh = odd_lines(sixth, e, f, g, h, 8);
+    even_lines(seventh, e, f, g, h, 7)
+}
+
+// A double round of each lane.
+fn double_rounds(states: &mut [u32])
+    requires { ⌜ length (now states) ≡ 64 ⌝ }
+    ensures { λ r. ⌜ Side-by-side (now (states .exit)) (λ l. double-round (lane-of l (now (states .entry)))) ⌝ }
+{
+    let mut l: usize = 0;
+    while l < 4 {
+        let before = lane(states, l);
+        let after = double_round(before);
+        put_lane(states, l, after);
+        l += 1;
+    }
+}
+
+// Twenty rounds of each lane.
+fn twenty_rounds(states: &mut [u32])
+    requires { ⌜ length (now states) ≡ 64 ⌝ }
+    ensures { λ r. ⌜ Side-by-side (now (states .exit)) (λ l. rounds 10 (lane-of l (now (states .entry)))) ⌝ }
+{
+    let mut done: usize = 0;
+    while done < 10 {
+        double_rounds(states);
+        done += 1;
+    }
+}
+
+// The lanes serialized, one after another.
+fn serialize(states: &[u32], out: &mut [u8])
+    requires { ⌜ (length (now states) ≡ 64) × (length (now out) ≡ 256) ⌝ }
+    ensures { λ r. ⌜ now (out .exit) ≡ lanes-bytes 4 (now (states .entry)) ⌝ }
+{
+    let mut l: usize = 0;
+    while l < 4 {
+        let from = 64 * l;
+        let to = from + 64;
+        let state = lane(states, l);
+        chacha20::serialize(state, &mut out[from..to]);
+        l += 1;
+    }
+}
+
+// The blocks of four lanes, one after another.
+fn four_blocks(initial: [u32; 64], out: &mut [u8])
+    requires { ⌜ length (now out) ≡ 256 ⌝ }
+    ensures { λ r. ⌜ now (out .exit) ≡ lanes-blocks 4 initial ⌝ }
+{
+    let mut states = initial;
+    twenty_rounds(&mut states);
+    chacha20::add_into(&mut states, &initial);
+    serialize(&states, out);
+}
+
+// Four counters of one seed.
+fn open_counters(seed: &[u8], counter: u32, states: &mut [u32])
+    requires { ⌜ (length (now seed) ≡ 32) × (counter + 4 < 2 ^ 32) × (length (now states) ≡ 64) ⌝ }
+    ensures { λ r. ⌜ Side-by-side (now (states .exit)) (λ l. opening (now (seed .entry)) (counter + l)) ⌝ }
+{
+    let nonce = [0u8; 12];
+    let mut next = counter;
+    let mut l: usize = 0;
+    while l < 4 {
+        let words = chacha20::initial_state(seed, next, &nonce);
+        put_lane(states, l, words);
+        next += 1;
+        l += 1;
+    }
+}
+
+// Four seeds at counter 0.
+fn open_seeds(seeds: &[u8], states: &mut [u32])
+    requires { ⌜ (length (now seeds) ≡ 128) × (length (now states) ≡ 64) ⌝ }
+    ensures { λ r. ⌜ Side-by-side (now (states .exit)) (λ l. opening (take 32 (drop (32 * l) (now (seeds .entry)))) 0) ⌝ }
+{
+    let nonce = [0u8; 12];
+    let mut l: usize = 0;
+    while l < 4 {
+        let from = 32 * l;
+        let to = from + 32;
+        let words = chacha20::initial_state(&seeds[from..to], 0, &nonce);
+        put_lane(states, l, words);
+        l += 1;
+    }
+}
+
+// Four blocks of one seed, from the block of `counter` on.
+pub fn four_counters(seed: &[u8], counter: u32, out: &mut [u8])
+    requires { ⌜ (length (now seed) ≡ 32) × (counter + 4 < 2 ^ 32) × (length (now out) ≡ 256) ⌝ }
+    ensures { λ r. ⌜ now (out .exit) ≡ blocks 4 counter (now (seed .entry)) ⌝ }
+{
+    let mut initial = [0u32; 64];
+    open_counters(seed, counter, &mut initial);
+    four_blocks(initial, out);
+}
+
+// The first blocks of four seeds that stand one after another.
+pub fn four_seeds(seeds: &[u8], out: &mut [u8])
+    requires { ⌜ (length (now seeds) ≡ 128) × (length (now out) ≡ 256) ⌝ }
+    ensures { λ r. ⌜ now (out .exit) ≡ first-blocks 4 (now (seeds .entry)) ⌝ }
+{
+    let mut initial = [0u32; 64];
+    open_seeds(seeds, &mut initial);
+    four_blocks(initial, out);
+}
