@@ -123,6 +123,12 @@ module _ (i from : ℕ) (cs : List ℕ) where
   pub eight-packed : {low high : ℕ} → low ≡ packed-from 4 0 i (drop from cs) → high ≡ packed-from 4 0 i (drop (from + 4) cs) → low + 16 * high ≡ packed-from 8 0 i (drop from cs)
   eight-packed p q = omega (arith, p, q ∙ ap (λ (l : List ℕ). packed-from 4 0 i l) (sym (drop-drop 4 from cs)), packed-add 4 4 0 i (drop from cs), up-four 4 i (drop 4 (drop from cs)))
 
+  -- four are left, and no more
+  pub last-four : {byte : ℕ} → byte ≡ packed-from 4 0 i (drop from cs) → from + 4 ≡ length cs → byte ≡ packed-from 8 0 i (drop from cs)
+  last-four p e =
+      let none : packed-from 4 4 i (drop 4 (drop from cs)) ≡ 0 = rw (drop-drop 4 from cs, drop-of-length-le cs {i = from + 4} (omega arith)) (packed-none 4 4 i) in
+      omega (arith, p, packed-add 4 4 0 i (drop from cs), none)
+
 -- PACKED BYTES, one more
 pub packed-snoc : (k i : ℕ) (cs : List ℕ) → packed (suc k) i cs ≡ packed k i cs ++ (packed-from 8 0 i (drop (8 * k) cs) ∷ [])
 unfolding packed

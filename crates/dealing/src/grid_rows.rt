@@ -76,6 +76,9 @@ fn mark_byte(array: &[u8], from: usize, player: u32) -> u8
     if from + 8 <= array.len() {
         return four_marks(array, from, player) + 16 * four_marks(array, from + 4, player);
     }
+    if from + 4 == array.len() {
+        return four_marks(array, from, player);
+    }
     few_marks(array, from, player)
 }
 

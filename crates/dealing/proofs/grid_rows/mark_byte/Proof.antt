@@ -1,7 +1,7 @@
 -- `dealing::grid_rows::mark_byte` meets its contract. Assumes nothing.
 use native.Mathlib.Omega.{arith}
 use denote.Ref.{now}
-use Rattle.dealing.proofs.RowBytes.{packed-small, eight-packed}
+use Rattle.dealing.proofs.RowBytes.{packed-small, eight-packed, last-four}
 use borrow.Author.Needs.{needs}
 use Rattle.dealing.proofs.grid_rows.mark_byte.Statement.{statement}
 use Rattle.dealing.proofs.grid_rows.mark_byte.Tie as tie
@@ -29,11 +29,22 @@ returns c =
     let a = c .before .before .before .before .args in
     eight-packed (a .player) (a .from) (now (a .array)) (c .before .four-marks .ensures) (c .four-marks2 .ensures)
 
+add-if2 : tie.Need-add-if2
+add-if2 c = search needs
+
+four-marks-requires-3 : tie.Need-four-marks-requires-3
+four-marks-requires-3 c κs = search needs
+
+returns-2 : tie.Need-returns-2
+returns-2 c =
+    let a = c .before .before .before .before .args in
+    last-four (a .player) (a .from) (now (a .array)) (c .four-marks3 .ensures) (c .before .if2 .taken)
+
 few-marks-requires : tie.Need-few-marks-requires
 few-marks-requires c κs = search needs
 
-returns-2 : tie.Need-returns-2
-returns-2 c = search needs
+returns-3 : tie.Need-returns-3
+returns-3 c = search needs
 
 pub mark-byte-spec : {M : Type 1} → statement M
 mark-byte-spec =
@@ -46,5 +57,8 @@ mark-byte-spec =
     mul-result
     add-result
     returns
+    add-if2
+    four-marks-requires-3
+    returns-2
     few-marks-requires
-    returns-2)
+    returns-3)
