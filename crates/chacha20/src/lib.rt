@@ -1,6 +1,7 @@
 // ChaCha20 by RFC 8439, to be held beside it: section 2.1's quarter round, 2.3's double round and block function, 2.4's key stream,
 // under the RFC's names and in its order. Document 01's rows are the key stream with the seed as key, the nonce twelve zeros and the
-// block counter from 0: crate rows makes them. The meanings stand in specs/Expand.antt and specs/Rfc8439.antt. Assumes nothing.
+// block counter from 0: crate rows makes them. The meanings stand in specs/Expand.antt and specs/Rfc8439.antt, and specs/Lines.antt has the
+// lines that are stepped together for speed. Assumes nothing.
 ghost use mathlib.Core.Path.{_≡_};
 ghost use Prim.Native.Nat.{_+_, _/_, _^_, _<_, _≤_};
 ghost use mathlib.Core.List.{[], _∷_};
@@ -31,7 +32,7 @@ fn xor_roll(word: u32, sum: u32, roll: u32) -> u32
 }
 
 // 2.1, one of the four lines: a += b; d ^= a; d <<<= roll
-pub fn half_step(state: [u32; 16], a: usize, b: usize, d: usize, roll: u32) -> [u32; 16]
+fn half_step(state: [u32; 16], a: usize, b: usize, d: usize, roll: u32) -> [u32; 16]
     requires { ⌜ (a < 16) × (b < 16) × (d < 16) × (0 < roll) × (roll < 32) ⌝ }
     ensures { λ r. ⌜ r ≡ mixed a b d roll state ⌝ }
 {
