@@ -1,6 +1,6 @@
 -- Four quarter rounds line by line together are the four one after another: they touch different words. Shown on a state written out word by
 -- word, on which both compute to the same. Assumes nothing.
-use mathlib.Core.Path.{_≡_, refl, sym, ap, _∙_, subst}
+use mathlib.Core.Path.{_≡_, refl, sym, subst}
 use mathlib.Core.List.{List, [], _∷_}
 use Prim.Native.Nat.{ℕ, zero, suc, _+_}
 use native.Mathlib.Omega.{arith}
