@@ -28,6 +28,10 @@ usage: reference COMMAND
                     neighbouring runs have different answers.
   make-data DIR     writes DIR/cases.bin, the comparison's data in the format of FORMAT.md;
                     the same bytes each time
+  make-program-cases DIR
+                    writes the files of the programs' cases into DIR, with their list, DIR/cases:
+                    a line for each case, with the program, the file that it reads and the file
+                    that it writes; the same bytes each time
   --help            this text
 
 deal and join read at most 65,537 bytes, which is enough to know that an input is too long.
@@ -42,6 +46,7 @@ fn main() -> ExitCode {
         ["join"] => program(joining_program),
         ["one-byte-changes"] => one_byte_changes(),
         ["make-data", folder] => make_data(Path::new(folder)),
+        ["make-program-cases", folder] => make_program_cases(Path::new(folder)),
         ["--help"] => write_out(HELP.as_bytes()),
         _ => {
             eprint!("{HELP}");
@@ -105,5 +110,16 @@ fn make_data(folder: &Path) -> io::Result<()> {
     fs::create_dir_all(folder)?;
     fs::write(folder.join("cases.bin"), &file)?;
     println!("{} cases, {} bytes", cases.len(), file.len());
+    Ok(())
+}
+
+fn make_program_cases(folder: &Path) -> io::Result<()> {
+    let files = cases::programs::files();
+    fs::create_dir_all(folder)?;
+    for (name, bytes) in &files {
+        fs::write(folder.join(name), bytes)?;
+    }
+    let bytes: usize = files.values().map(Vec::len).sum();
+    println!("{} files, {bytes} bytes", files.len());
     Ok(())
 }

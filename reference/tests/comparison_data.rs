@@ -6,6 +6,7 @@ use reference::data::{
     JOINING_PROGRAM, JOIN_KEYS, JOIN_SHARES, KEY_LENGTH, OPEN_ALL, OPEN_ONE, SENSOR_POSITION,
 };
 use std::collections::{BTreeMap, BTreeSet};
+use std::fs;
 
 /// Every number that each operation can give, 0 for acceptance.
 const ANSWERS: [(u8, &[u32]); 13] = [
@@ -60,6 +61,16 @@ fn the_data_is_enough_and_the_same_each_time() {
     for case in &read {
         assert_eq!(case.call.answer(), case.answer);
     }
+}
+
+#[test]
+fn the_committed_file_is_what_is_made() {
+    let path = concat!(
+        env!("CARGO_MANIFEST_DIR"),
+        "/../crates/compare/data/cases.bin"
+    );
+    let committed = fs::read(path).expect("the committed file");
+    assert!(committed == write_file(&all()), "run reference/make-data");
 }
 
 #[test]

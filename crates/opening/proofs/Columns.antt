@@ -15,7 +15,7 @@ use Rattle.grid.specs.Grid.{Board, columns, grid-rows, row-long}
 use Rattle.keys.specs.Keys.{mark-bytes, stride}
 use Rattle.keys.specs.Held.{marked}
 use Rattle.opening.specs.Shares.{stretch}
-use Rattle.opening.specs.Words.{marked-words}
+use Rattle.opening.specs.Words.{marked-words, row-words}
 
 -- a product of the code's numbers is that of the definition's
 pub products : (a b c d : ℕ) → a ≡ c → b ≡ d → a * b ≡ c * d
@@ -79,3 +79,9 @@ unfolding marked-words
 words-end ps ws l s n J j out all past long good h =
     let none : J - j ≡ 0 = omega arith in
     sym (xors-zeros-right n out (record { long = long; good = good })) ∙ rw none at h
+
+-- the words by the board's numbers
+pub words-added : (b : Board) (ps : List ℕ) (g s : ℕ) (out new words : List ℕ) (J l : ℕ) → words ≡ drop ((grid-rows b - g) * stride b) ps → J ≡ columns b → l ≡ row-long b →
+    new ≡ xors out (marked-words J 0 ps words l s (length out)) → new ≡ xors out (row-words b ps g s (length out))
+unfolding row-words
+words-added b ps g s out new words J l e c r is = is ∙ rw (e, c, r)

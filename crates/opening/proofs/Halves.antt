@@ -19,7 +19,7 @@ use Rattle.grid.proofs.Cells.{drop-zeros}
 use Rattle.keys.specs.Keys.{mark-bytes, count-marks, stride, word-behind}
 use Rattle.keys.specs.Held.{marked}
 use Rattle.opening.specs.Shares.{stretch, shares, shares-from}
-use Rattle.opening.specs.Words.{marked-words}
+use Rattle.opening.specs.Words.{marked-words, row-words}
 use Rattle.opening.proofs.Stretches.{stretch-within}
 
 -- a column's word and row, and what the others add, word by word and row by row
@@ -104,8 +104,8 @@ module _ (b : Board) (ps : List ℕ) (g s n : ℕ) (within : s + n ≤ row-long 
 
   -- the two halves of the shares
   shares-are : count-marks (columns b) 0 ps ≡ columns b / 2 →
-      shares b (expand (row-long b)) ps g s n ≡ xors (drop s (rows-joined (columns b / 2) (s + n) (drop (mark-bytes b) ps))) (words-from-on (columns b) 0)
-  unfolding shares
+      shares b (expand (row-long b)) ps g s n ≡ xors (drop s (rows-joined (columns b / 2) (s + n) (drop (mark-bytes b) ps))) (row-words b ps g s n)
+  unfolding shares row-words
   shares-are half =
       let first : mark-bytes b + 32 * 0 ≡ mark-bytes b = omega arith in
       let words = words-from-on (columns b) 0 in
@@ -116,8 +116,7 @@ module _ (b : Board) (ps : List ℕ) (g s n : ℕ) (within : s + n ≤ row-long 
       ∙ rw (half, first) (rw (xors-comm words rows) (xors-comm (zeros n) (xors rows words) ∙ zeros-add-nothing n (xors rows words) short (good-xors rows words)))
 
 module _ (b : Board) (ps : List ℕ) (g : ℕ) (half : count-marks (columns b) 0 ps ≡ columns b / 2) (room : stride b ≤ length ps) (seeds : List ℕ)
-    (seeds-are : seeds ≡ take (32 * (columns b / 2)) (drop (mark-bytes b) ps)) (words : List ℕ) (words-are : words ≡ drop ((grid-rows b - g) * stride b) ps)
-    (J l : ℕ) (J-is : J ≡ columns b) (l-is : l ≡ row-long b) where
+    (seeds-are : seeds ≡ take (32 * (columns b / 2)) (drop (mark-bytes b) ps)) where
   -- the rows of the held seeds, counted by their bytes
   held-rows : (n : ℕ) → rows-joined (length seeds / 32) n seeds ≡ rows-joined (columns b / 2) n (drop (mark-bytes b) ps)
   unfolding stride
@@ -129,20 +128,19 @@ module _ (b : Board) (ps : List ℕ) (g : ℕ) (half : count-marks (columns b) 0
 
   -- rows and words XORed in, one after the other, are the shares XORed in
   pub part-added : (old rows-in words-in : List ℕ) → length rows-in ≡ length old → length old ≤ row-long b → rows-in ≡ xors old (rows-joined (length seeds / 32) (length old) seeds) →
-      words-in ≡ xors rows-in (marked-words J 0 ps words l 0 (length rows-in)) → words-in ≡ xors old (shares b (expand (row-long b)) ps g 0 (length old))
+      words-in ≡ xors rows-in (row-words b ps g 0 (length rows-in)) → words-in ≡ xors old (shares b (expand (row-long b)) ps g 0 (length old))
   part-added old rows-in words-in long within rows-is words-is =
       let n = length old in
       let here : 0 + n ≡ n = omega arith in
       let both = shares-are b ps g 0 n (omega arith) half in
-      words-is ∙ rw (long, rows-is, held-rows n, words-are, J-is, l-is)
-      (xors-assoc old (rows-joined (columns b / 2) n (drop (mark-bytes b) ps)) (marked-words (columns b) 0 ps (drop ((grid-rows b - g) * stride b) ps) (row-long b) 0 n)
-      ∙ ap (λ (l : List ℕ). xors old l) (sym (rw here at both)))
+      words-is ∙ rw (long, rows-is, held-rows n)
+      (xors-assoc old (rows-joined (columns b / 2) n (drop (mark-bytes b) ps)) (row-words b ps g 0 n) ∙ ap (λ (l : List ℕ). xors old l) (sym (rw here at both)))
 
   -- and so are the rows' stretch, taken from where they were XORed, and the words XORed into zeros
   pub part-opened : (s n : ℕ) (row-old row cleared rows-in words-in : List ℕ) → s + n ≤ row-long b → row-old ≡ zeros (s + n) →
       row ≡ xors row-old (rows-joined (length seeds / 32) (length row-old) seeds) → cleared ≡ zeros n →
-      rows-in ≡ xors cleared (take (length row - s) (drop s row)) → length rows-in ≡ n →
-      words-in ≡ xors rows-in (marked-words J 0 ps words l s (length rows-in)) → words-in ≡ shares b (expand (row-long b)) ps g s n
+      rows-in ≡ xors cleared (take (length row - s) (drop s row)) → length rows-in ≡ n → words-in ≡ xors rows-in (row-words b ps g s (length rows-in)) →
+      words-in ≡ shares b (expand (row-long b)) ps g s n
   part-opened s n row-old row cleared rows-in words-in within row-zeros row-is cleared-is rows-is long words-is =
       let rows = rows-joined (columns b / 2) (s + n) (drop (mark-bytes b) ps) in
       let whole : Word (s + n) rows = word-rows (columns b / 2) (s + n) (drop (mark-bytes b) ps) in
@@ -151,4 +149,4 @@ module _ (b : Board) (ps : List ℕ) (g : ℕ) (half : count-marks (columns b) 0
       let row-now : row ≡ rows = row-is ∙ rw (row-zeros, word-zeros (s + n) .long, held-rows (s + n)) (xors-zeros-left (s + n) rows whole) in
       let all : take (length row - s) (drop s row) ≡ drop s rows = rw row-now (take-all (length rows - s) (drop s rows) (rw length-drop (omega arith))) in
       let rows-now : rows-in ≡ drop s rows = rows-is ∙ rw (cleared-is, all) (xors-zeros-left n (drop s rows) (subst (λ (m : ℕ). Word m (drop s rows)) count end)) in
-      words-is ∙ rw (long, rows-now, words-are, J-is, l-is) (sym (shares-are b ps g s n within half))
+      words-is ∙ rw (long, rows-now) (sym (shares-are b ps g s n within half))

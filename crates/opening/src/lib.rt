@@ -24,7 +24,7 @@ ghost use Rattle.grid.specs.Grid.{board-refusal, columns, grid-rows, row-long};
 ghost use Rattle.grid.specs.Code.{board-of};
 ghost use Rattle.keys.specs.Keys.{mark-bytes, count-marks, stride, head-in, row-part, opened, table};
 ghost use Rattle.opening.specs.Shares.{shares, Accepted-with, in-front};
-ghost use Rattle.opening.specs.Words.{marked-words};
+ghost use Rattle.opening.specs.Words.{marked-words, row-words};
 
 // XORs a word into `out` where its column is marked.
 fn add_if(marked: bool, word: &[u8], out: &mut [u8])
@@ -58,13 +58,15 @@ fn add_words(
     }
 }
 
-// The words, which stand behind the grid row at which the part begins and all after it.
-fn words_behind(part: &[u8], board: Board, grid_row: usize) -> &[u8]
+// The same by the board's numbers: the words stand behind the grid row at which the part begins and all after it.
+fn add_row_words(part: &[u8], board: Board, grid_row: usize, from: usize, out: &mut [u8])
     requires { ⌜ (board-refusal (board-of board) ≡ 0) × («grid_row» < grid-rows (board-of board))
-        × ((grid-rows (board-of board) - «grid_row») * stride (board-of board) ≤ length (now part)) ⌝ }
-    ensures { λ r. ⌜ now r ≡ drop ((grid-rows (board-of board) - «grid_row») * stride (board-of board)) (now (part .entry)) ⌝ }
+        × (length (now part) ≡ (grid-rows (board-of board) - «grid_row») * stride (board-of board) + columns (board-of board) * row-long (board-of board))
+        × (from + length (now out) ≤ row-long (board-of board)) ⌝ }
+    ensures { λ r. ⌜ now (out .exit) ≡ xors (now (out .entry)) (row-words (board-of board) (now (part .entry)) «grid_row» from (length (now (out .entry)))) ⌝ }
 {
-    part_from(part, (board.grid_rows() - grid_row) * stride(board))
+    let words = part_from(part, (board.grid_rows() - grid_row) * stride(board));
+    add_words(part, board.columns(), words, board.row_length(), from, out);
 }
 
 // The held seeds of the grid row at which the part begins: half its columns have one.
@@ -86,8 +88,7 @@ fn add_part(part: &[u8], board: Board, grid_row: usize, out: &mut [u8])
     ensures { λ r. ⌜ now (out .exit) ≡ xors (now (out .entry)) (shares (board-of board) (expand (row-long (board-of board))) (now (part .entry)) «grid_row» 0 (length (now (out .entry)))) ⌝ }
 {
     xor_rows(row_seeds(part, board), out);
-    let words = words_behind(part, board, grid_row);
-    add_words(part, board.columns(), words, board.row_length(), 0, out);
+    add_row_words(part, board, grid_row, 0, out);
 }
 
 // Fills `out` with these shares from byte `from` on. The rows are XORed in `row`, which is zeros as far as the shares that are wanted.
@@ -108,8 +109,7 @@ fn open_part(
     xor_rows(row_seeds(part, board), row);
     clear(out);
     xor_into(out, &row[from..]);
-    let words = words_behind(part, board, grid_row);
-    add_words(part, board.columns(), words, board.row_length(), from, out);
+    add_row_words(part, board, grid_row, from, out);
 }
 
 // The part of an accepted key that begins at a grid row.

@@ -26,7 +26,7 @@ use Rattle.nosingginger.specs.Entry.{or-else, lent, Put-says, Deal-says}
 use Rattle.nosingginger.proofs.Answering.{first-fits, next-fits}
 use Rattle.nosingginger.proofs.InTurn.{neither}
 use Rattle.nosingginger.proofs.Putting.{room-there, answer-is, put, untouched}
-use Rattle.nosingginger.proofs.DealtKeys.{lent-accepted, keys-length}
+use Rattle.promises.proofs.DealtKeys.{lent-accepted, keys-length}
 use Rattle.text.specs.Text.{refused-line}
 use Rattle.programs.specs.Programs.{Writes, input-in, asked-bytes, lent-in, asked-refusal, lent-refusal, dealing-refusal, keys-of, dealing-output, dealt-output, Deals}
 use Rattle.programs.proofs.Writing.{writes-none, writes-all, put-front}

@@ -24,10 +24,10 @@ use Rattle.nosingginger.specs.JoinKeys.{numbers-refusal, head-refusal, keys-ref
 use Rattle.nosingginger.proofs.Answering.{first-fits, next-fits, put-refused, put-done}
 use Rattle.nosingginger.proofs.InTurn.{neither, numbers-fine}
 use Rattle.nosingginger.proofs.Putting.{answer-is, put, untouched, take-front}
-use Rattle.nosingginger.proofs.JoinedKeys.{Joined, joined-says, joined-word}
+use Rattle.promises.proofs.JoinedKeys.{Joined, joined-says, joined-word}
 use Rattle.text.specs.Text.{refused-line, table-text}
 use Rattle.programs.specs.Programs.{Writes, joining-refusal, joined, joining-output, Joins}
-use Rattle.programs.proofs.Writing.{put-front, writes-within}
+use Rattle.programs.proofs.Writing.{writes-line, put-front, writes-within}
 
 -- THE FIRST KEY'S OWN NUMBERS, OR ELSE 12
 
@@ -123,10 +123,13 @@ module _ (bs : List ℕ) (r : ℕ) (t u : List ℕ) (enough : 65536 ≤ length t
   number : r ≡ joining-refusal bs
   number = answer-is (joining-refusal bs) (joined bs) r t u says
 
-  pub joins-refused : (r ≡ 0 → ⊥) → Writes (refused-line r) answer o z → Joins (leb 65536 (length t)) bs answer t u o z
+  pub joins-refused : (r ≡ 0 → ⊥) → (n : ℕ) → Writes (refused-line n) answer o z → n ≡ r → Joins (leb 65536 (length t)) bs answer t u o z
   unfolding Joins joining-output
-  joins-refused some w =
-      rw (le-leb 65536 (length t) enough, ← number, ne-eqb r 0 some) (w, untouched (joining-refusal bs) (joined bs) r t u says some)
+  joins-refused some n w same =
+      rw (le-leb 65536 (length t) enough, ← number, ne-eqb r 0 some) (
+        writes-line n r answer o z (refused-line r) w same refl,
+        untouched (joining-refusal bs) (joined bs) r t u says some,
+      )
 
   pub joins-accepted : bytes-good bs ≡ true → r ≡ 0 →
       Writes (table-text (head-in bs .board .p) (head-in bs .board .n) (head-in bs .board .w) (take (head-in bs .board .n * head-in bs .board .w) u)) answer o z →
@@ -171,8 +174,9 @@ module _ (bs : List ℕ) (h : Header) (next : Reader) (read : Heading.Whole h ne
       length (take (h .board .positions * h .board .«value_bytes») t) ≡ h .board .positions * h .board .«value_bytes»
   table-cut z t enough = length-take-le (h .board .positions * h .board .«value_bytes») t (omega (arith, table-size z))
 
-  pub named-board : (answer : ℕ) (t o z : List ℕ) →
-      Writes (table-text (h .board .players) (h .board .positions) (h .board .«value_bytes») (take (h .board .positions * h .board .«value_bytes») t)) answer o z →
+  pub named-board : (answer : ℕ) (t o z : List ℕ) (p n w : ℕ) → Writes (table-text p n w (take (n * w) t)) answer o z →
+      p ≡ h .board .players → n ≡ h .board .positions → w ≡ h .board .«value_bytes» →
       Writes (table-text (head-in bs .board .p) (head-in bs .board .n) (head-in bs .board .w) (take (head-in bs .board .n * head-in bs .board .w) t)) answer o z
   unfolding board
-  named-board answer t o z w = subst (λ (b : Board). Writes (table-text (b .p) (b .n) (b .w) (take (b .n * b .w) t)) answer o z) (sym same-board) w
+  named-board answer t o z p n w says players positions value =
+      rw (same-board, ← players, ← positions, ← value) says

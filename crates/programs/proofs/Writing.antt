@@ -12,6 +12,7 @@ use borrow.Author.Tests.{lt-ltb, le-ltb}
 use Rattle.writer.specs.Written.{Wrote}
 use Rattle.writer.proofs.Laws.{written-front}
 use Rattle.nosingginger.specs.Entry.{in-front, Put-says}
+use Rattle.text.specs.Text.{refused-line}
 use Rattle.programs.specs.Programs.{Writes}
 
 pub writes-none : (bs o : List ℕ) → length o < length bs → Writes bs 0 o o
@@ -29,6 +30,10 @@ writes-wrote {r} bs {o} {z} h p = writes-all bs r o z h (p .next-is ∙ zero-add
 -- the same bytes by another name
 pub writes-as : (bs cs : List ℕ) (r : ℕ) (o z : List ℕ) → bs ≡ cs → Writes cs r o z → Writes bs r o z
 writes-as bs cs r o z e w = subst (λ (l : List ℕ). Writes l r o z) (sym e) w
+
+-- a line that refuses by a number is the one asked for, where the numbers are equal
+pub writes-line : (n m r : ℕ) (o z bs : List ℕ) → Writes (refused-line n) r o z → n ≡ m → bs ≡ refused-line m → Writes bs r o z
+writes-line n m r o z bs w same e = writes-as bs (refused-line n) r o z (e ∙ ap (λ (k : ℕ). refused-line k) (sym same)) w
 
 -- what stands behind some bytes, of a front part and of the whole
 front-behind : (n k : ℕ) (o : List ℕ) → n ≤ k → k ≤ length o → drop n (take k o) ++ drop k o ≡ drop n o

@@ -19,14 +19,14 @@ use Rattle.grid.proofs.Sums.{over-last, over-same, over-word}
 use Rattle.keys.specs.Keys.{key-refusal, head-in, table, opened, deal-refusal, key-long, keys-from}
 use Rattle.keys.specs.Promise.{point-table}
 use Rattle.nosingginger.specs.Entry.{or-else, in-front, Put-says, says, lent, rule, key-rule, Deal-says, Long-says, Open-one-says, Open-all-says}
-use Rattle.nosingginger.specs.Calls.{Dealt, key-part, Keys-good, Deals-open, Opens-agree, Past-kept}
+use Rattle.promises.specs.Calls.{Dealt, key-part, Keys-good, Deals-open, Opens-agree, Past-kept}
 use Rattle.nosingginger.specs.declared.Answer.{Answer}
 use Rattle.witness.specs.Witness.{Opens-each, tables-joined, Shows-the-piece, Both-ways}
 use Rattle.nosingginger.proofs.Answering.{put-refused, put-done}
 use Rattle.nosingginger.proofs.InTurn.{neither}
 use Rattle.nosingginger.proofs.Putting.{nothing-refuses, room-there, room-enough, answer-is, take-front}
-use Rattle.nosingginger.proofs.OpenedKey.{all-answered, all-opened, one-opened, own-table-word, own-table-long}
-use Rattle.nosingginger.proofs.Calls.{deals-open, opens-agree, answered-keeps}
+use Rattle.promises.proofs.OpenedKey.{all-answered, all-opened, one-opened, own-table-word, own-table-long}
+use Rattle.promises.proofs.Calls.{deals-open, opens-agree, answered-keeps}
 
 -- NUMBERS
 

@@ -10,7 +10,7 @@ use Rattle.grid.specs.Joining.{over}
 use Rattle.keys.specs.Keys.{key-refusal, head-in, key-long, deal-refusal, table}
 use Rattle.keys.specs.Promise.{entry, point-table}
 use Rattle.nosingginger.specs.Entry.{or-else, Put-says, lent, key-rule}
-use Rattle.nosingginger.specs.Calls.{key-part}
+use Rattle.promises.specs.Calls.{key-part}
 
 -- keys one after another, each accepted and with a table of this size
 abbrev pub Opens-each : (keys : List ℕ) → (K players size : ℕ) → Type 0

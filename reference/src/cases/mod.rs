@@ -6,6 +6,7 @@ mod accepted;
 mod damaged;
 mod limits;
 mod plain;
+pub mod programs;
 
 use crate::board::Board;
 use crate::data::{Answer, Call, Case};

@@ -7,7 +7,7 @@ use Rattle.grid.specs.Code.{board-of}
 use Rattle.grid.proofs.Facts.{board-in}
 use Rattle.grid.proofs.Sizes.{row-most}
 use Rattle.keys.specs.Keys.{stride}
-use Rattle.opening.proofs.Columns.{row-there, words-there}
+use Rattle.opening.proofs.Columns.{row-there}
 use Rattle.opening.proofs.Halves.{part-added}
 use borrow.Author.Needs.{needs}
 use Rattle.opening.proofs.add_part.Statement.{statement}
@@ -23,42 +23,21 @@ row-seeds-requires c κs = let s = c .before .before in (s .pre .0, there s)
 xor-rows-requires : tie.Need-xor-rows-requires
 xor-rows-requires c κs = let s = c .before .before .before .before in omega (arith, s .pre .4, row-most _ (board-in _ (s .pre .0)))
 
-words-behind-requires : tie.Need-words-behind-requires
-words-behind-requires c κs = search needs
-
-columns-requires : tie.Need-columns-requires
-columns-requires c κs = search needs
-
-row-length-requires : tie.Need-row-length-requires
-row-length-requires c κs = search needs
-
-add-words-requires : tie.Need-add-words-requires
-add-words-requires c κs =
-    let s = c .before .before .before .before .before .before .before .before .before .before .before in
-    let row = c .before .row-length in (
-      words-there (board-of (s .args .board)) (now (s .args .part)) (s .args .grid-row) (s .pre .1) (s .pre .2) _ _ _ (c .before .before .before .words-behind .ensures) (c .before .before .columns .ensures) (row .ensures),
-      omega (arith, row .ensures, c .before .before .before .before .before .before .xor-rows .kept .1 .0, s .pre .4),
-    )
+add-row-words-requires : tie.Need-add-row-words-requires
+add-row-words-requires c κs =
+    let s = c .before .before .before .before .before .before .before .before in
+    (s .pre .0, s .pre .1, s .pre .2, omega (arith, c .before .before .before .xor-rows .kept .1 .0, s .pre .4))
 
 same-length : tie.Need-same-length
 same-length c = search needs
 
 returns : tie.Need-returns
 returns c =
-    let s = c .before .before .before .before .before .before .before .before .before .before .before .before .before .before in
-    let rows = c .before .before .before .before .before .before .before .before .before .xor-rows in
-    part-added (board-of (s .args .board)) (now (s .args .part)) (s .args .grid-row) (s .pre .3) (there s) _ (c .before .before .before .before .before .before .before .before .before .before .before .row-seeds .ensures) _ (c .before .before .before .before .before .before .words-behind .ensures) _ _
-    (c .before .before .before .before .before .columns .ensures) (c .before .before .before .before .row-length .ensures) (now (s .args .out)) _ _ (rows .kept .1 .0) (s .pre .4) (rows .ensures) (c .before .before .add-words .ensures)
+    let s = c .before .before .before .before .before .before .before .before .before .before .before in
+    let rows = c .before .before .before .before .before .before .xor-rows in
+    part-added (board-of (s .args .board)) (now (s .args .part)) (s .args .grid-row) (s .pre .3) (there s) _ (c .before .before .before .before .before .before .before .before .row-seeds .ensures) (now (s .args .out)) _ _ (rows .kept .1 .0) (s .pre .4)
+    (rows .ensures) (c .before .before .add-row-words .ensures)
 
 pub add-part-spec : {M : Type 1} → statement M
 add-part-spec =
-    tie.close
-    (tie.spec
-    row-seeds-requires
-    xor-rows-requires
-    words-behind-requires
-    columns-requires
-    row-length-requires
-    add-words-requires
-    same-length
-    returns)
+    tie.close (tie.spec row-seeds-requires xor-rows-requires add-row-words-requires same-length returns)

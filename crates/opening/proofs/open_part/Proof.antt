@@ -10,7 +10,7 @@ use Rattle.grid.specs.Code.{board-of}
 use Rattle.grid.proofs.Facts.{board-in}
 use Rattle.grid.proofs.Sizes.{row-most}
 use Rattle.keys.specs.Keys.{stride}
-use Rattle.opening.proofs.Columns.{rest-long, row-there, words-there}
+use Rattle.opening.proofs.Columns.{rest-long, row-there}
 use Rattle.opening.proofs.Halves.{part-opened}
 use borrow.Author.Needs.{needs}
 use Rattle.opening.proofs.open_part.Statement.{statement}
@@ -46,22 +46,10 @@ xor-into-requires : tie.Need-xor-into-requires
 xor-into-requires c κs =
     c .before .before .before .before .before .clear .kept .0 ∙ sym (rest-long (c .before .before .before .before .before .before .before .before .before .before .before .before .before .before .before .args .from) _ (c .before .before .before .before .before .before .before .before .before .xor-rows .last .1 .0) (c .before .before .before .before .before .before .before .before .before .xor-rows .kept .1 .0 ∙ row-is (c .before .before .before .before .before .before .before .before .before .before .before .before .before .before .before)))
 
-words-behind-requires : tie.Need-words-behind-requires
-words-behind-requires c κs = search needs
-
-columns-requires : tie.Need-columns-requires
-columns-requires c κs = search needs
-
-row-length-requires : tie.Need-row-length-requires
-row-length-requires c κs = search needs
-
-add-words-requires : tie.Need-add-words-requires
-add-words-requires c κs =
-    let s = c .before .before .before .before .before .before .before .before .before .before .before .before .before .before .before .before .before .before .before .before .before .before in
-    let row = c .before .row-length in (
-      words-there (board-of (s .args .board)) (now (s .args .part)) (s .args .grid-row) (s .pre .1) (s .pre .2) _ _ _ (c .before .before .before .words-behind .ensures) (c .before .before .columns .ensures) (row .ensures),
-      omega (arith, row .ensures, c .before .before .before .before .before .before .xor-into .kept .0, c .before .before .before .before .before .before .before .before .before .before .before .before .clear .kept .0, s .pre .5),
-    )
+add-row-words-requires : tie.Need-add-row-words-requires
+add-row-words-requires c κs =
+    let s = c .before .before .before .before .before .before .before .before .before .before .before .before .before .before .before .before .before .before .before in
+    (s .pre .0, s .pre .1, s .pre .2, omega (arith, c .before .before .before .xor-into .kept .0, c .before .before .before .before .before .before .before .before .before .clear .kept .0, s .pre .5))
 
 same-length : tie.Need-same-length
 same-length c = search needs
@@ -72,12 +60,11 @@ same-length-2 c = search needs
 returns : tie.Need-returns
 unfolding zeros
 returns c =
-    let s = c .before .before .before .before .before .before .before .before .before .before .before .before .before .before .before .before .before .before .before .before .before .before .before .before .before in
-    let added = c .before .before .before .before .before .before .before .before .before .xor-into in
-    let cleared = c .before .before .before .before .before .before .before .before .before .before .before .before .before .before .before .clear in
-    part-opened (board-of (s .args .board)) (now (s .args .part)) (s .args .grid-row) (s .pre .3) (there s) _ (c .before .before .before .before .before .before .before .before .before .before .before .before .before .before .before .before .before .before .before .before .before .row-seeds .ensures) _ (c .before .before .before .before .before .before .words-behind .ensures) _ _
-    (c .before .before .before .before .before .columns .ensures) (c .before .before .before .before .row-length .ensures) (s .args .from) (length (now (s .args .out))) (now (s .args .row)) _ _ _ _ (s .pre .5) (s .pre .4) (c .before .before .before .before .before .before .before .before .before .before .before .before .before .before .before .before .before .before .before .xor-rows .ensures)
-    (cleared .ensures) (added .ensures) (added .kept .0 ∙ cleared .kept .0) (c .before .before .add-words .ensures)
+    let s = c .before .before .before .before .before .before .before .before .before .before .before .before .before .before .before .before .before .before .before .before .before .before in
+    let added = c .before .before .before .before .before .before .xor-into in
+    let cleared = c .before .before .before .before .before .before .before .before .before .before .before .before .clear in
+    part-opened (board-of (s .args .board)) (now (s .args .part)) (s .args .grid-row) (s .pre .3) (there s) _ (c .before .before .before .before .before .before .before .before .before .before .before .before .before .before .before .before .before .before .row-seeds .ensures) (s .args .from) (length (now (s .args .out)))
+    (now (s .args .row)) _ _ _ _ (s .pre .5) (s .pre .4) (c .before .before .before .before .before .before .before .before .before .before .before .before .before .before .before .before .xor-rows .ensures) (cleared .ensures) (added .ensures) (added .kept .0 ∙ cleared .kept .0) (c .before .before .add-row-words .ensures)
 
 pub open-part-spec : {M : Type 1} → statement M
 open-part-spec =
@@ -90,10 +77,7 @@ open-part-spec =
     part-xor-into-start
     part-xor-into-end
     xor-into-requires
-    words-behind-requires
-    columns-requires
-    row-length-requires
-    add-words-requires
+    add-row-words-requires
     same-length
     same-length-2
     returns)

@@ -91,7 +91,7 @@ returns : tie.Need-returns Inv-loop μ-loop
 returns c =
     let l = c .before .loop in
     let s = entry (c .before .before) in
-    tables-all (s .args .board .players) (l .player) _ (l .end) (board-of (s .args .board)) (now (s .args .keys)) (l .out) (c .loop-test .left) (l .inv .1) (l .inv .3)
+    tables-all (s .args .board .players) (l .player) _ (l .end) (board-of (s .args .board)) (now (s .args .keys)) (l .out) (omega (arith, c .loop-test .left)) (l .inv .1) (l .inv .3)
 
 pub joined-tables-spec : {M : Type 1} → statement M
 joined-tables-spec =

@@ -1,5 +1,6 @@
 -- `programs::dealer::asked_refusal` meets its contract. Assumes nothing.
 use mathlib.Core.Path.{sym, _∙_}
+use native.Mathlib.Omega.{arith}
 use Rattle.grid.specs.Grid.{board}
 use Rattle.programs.proofs.Dealings.{asked-board, asked-point, asked-most, asked-length, asked-none}
 use borrow.Author.Needs.{needs}
@@ -18,18 +19,18 @@ returns-2 c = asked-point _ _ _ _ (sym (c .before .before .before .refusal .ensu
 
 returns-3 : tie.Need-returns-3
 unfolding board
-returns-3 c = asked-most _ _ _ _ (sym (c .before .before .before .before .refusal .ensures) ∙ c .before .before .before .if1 .left) (c .before .if2 .left) (c .if3 .taken)
+returns-3 c = asked-most _ _ _ _ (sym (c .before .before .before .before .refusal .ensures) ∙ c .before .before .before .if1 .left) (c .before .if2 .left) (omega arith)
 
 asked-bytes-requires : tie.Need-asked-bytes-requires
 asked-bytes-requires c κs = search needs
 
 returns-4 : tie.Need-returns-4
 unfolding board
-returns-4 c = asked-length _ _ _ _ (sym (c .before .before .before .before .before .before .refusal .ensures) ∙ c .before .before .before .before .before .if1 .left) (c .before .before .before .if2 .left) (c .before .before .if3 .left) _ (c .before .asked-bytes .ensures) (c .if4 .taken)
+returns-4 c = asked-length _ _ _ _ (sym (c .before .before .before .before .before .before .refusal .ensures) ∙ c .before .before .before .before .before .if1 .left) (c .before .before .before .if2 .left) (omega arith) _ (c .before .asked-bytes .ensures) (c .if4 .taken)
 
 returns-5 : tie.Need-returns-5
 unfolding board
-returns-5 c = asked-none _ _ _ _ (sym (c .before .before .before .before .before .before .refusal .ensures) ∙ c .before .before .before .before .before .if1 .left) (c .before .before .before .if2 .left) (c .before .before .if3 .left) _ (c .before .asked-bytes .ensures) (c .if4 .left)
+returns-5 c = asked-none _ _ _ _ (sym (c .before .before .before .before .before .before .refusal .ensures) ∙ c .before .before .before .before .before .if1 .left) (c .before .before .before .if2 .left) (omega arith) _ (c .before .asked-bytes .ensures) (c .if4 .left)
 
 pub asked-refusal-spec : {M : Type 1} → statement M
 asked-refusal-spec =

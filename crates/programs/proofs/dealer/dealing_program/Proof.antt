@@ -1,8 +1,9 @@
 -- `programs::dealer::dealing_program` meets its contract. Assumes nothing.
 use mathlib.Core.Path.{sym, _∙_}
 use Prim.Native.Nat.{_-_}
+use native.Mathlib.Omega.{arith}
 use Rattle.grid.specs.Grid.{board}
-use Rattle.programs.proofs.Writing.{writes-as}
+use Rattle.programs.proofs.Writing.{writes-as, writes-line}
 use Rattle.programs.proofs.Dealings.{broken-input, inside, refused-input, rest-length, asked-fine, asked-input}
 use borrow.Author.Needs.{needs}
 use Rattle.programs.proofs.dealer.dealing_program.Statement.{statement}
@@ -24,7 +25,8 @@ same-length : tie.Need-same-length
 same-length c = search needs
 
 returns : tie.Need-returns
-returns c = writes-as _ _ _ _ _ (broken-input _ (sym (c .before .before .before .before .enum-told .given .1) ∙ c .before .before .before .before .before .before .header-in .ensures)) (c .before .before .put-refusal .ensures)
+returns c =
+    writes-line _ 10 _ _ _ _ (c .before .before .put-refusal .ensures) (omega arith) (broken-input _ (sym (c .before .before .before .before .enum-told .given .1) ∙ c .before .before .before .before .before .before .header-in .ensures))
 
 sub-asked-refusal : tie.Need-sub-asked-refusal
 sub-asked-refusal c = inside _ _ _ (sym (c .before .before .numbers .given .1) ∙ c .before .before .before .before .header-in .ensures)

@@ -1,6 +1,7 @@
 -- `programs::joiner::join_input` meets its contract: an input longer than any by its first header, any other as Join keys. Assumes nothing.
 use mathlib.Core.Path.{sym}
 use Prim.Native.Nat.{_-_}
+use native.Mathlib.Omega.{arith}
 use lib.Seq.{length-take-le}
 use denote.Ref.{now}
 use Rattle.xor.proofs.Laws.{good-by-entries}
@@ -13,7 +14,7 @@ long-refusal-requires : tie.Need-long-refusal-requires
 long-refusal-requires c κs = search needs
 
 returns : tie.Need-returns
-returns c = refused-long (now (c .before .before .before .before .args .input)) _ (now (c .before .before .before .before .args .table)) (c .before .if1 .taken) (c .long-refusal .ensures)
+returns c = refused-long (now (c .before .before .before .before .args .input)) _ (now (c .before .before .before .before .args .table)) (omega arith) (c .long-refusal .ensures)
 
 slice-relend-prefix-join-keys : tie.Need-slice-relend-prefix-join-keys
 slice-relend-prefix-join-keys c = search needs
@@ -30,7 +31,7 @@ same-length c = search needs
 returns-2 : tie.Need-returns-2
 returns-2 c =
     let a = c .before .before .before .before .before .before .before .args in
-    joined-front (now (a .input)) _ (now (a .table)) _ (good-by-entries (now (a .input)) (λ i _. c .before .before .before .before .before .before .shared-slice-known .given i .fits)) (c .before .before .before .before .if1 .left) (c .before .before .before .before .before .before .before .pre) (c .before .before .join-keys .ensures)
+    joined-front (now (a .input)) _ (now (a .table)) _ (good-by-entries (now (a .input)) (λ i _. c .before .before .before .before .before .before .shared-slice-known .given i .fits)) (omega arith) (c .before .before .before .before .before .before .before .pre) (c .before .before .join-keys .ensures)
 
 pub join-input-spec : {M : Type 1} → statement M
 join-input-spec =

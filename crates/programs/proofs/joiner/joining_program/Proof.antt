@@ -28,7 +28,7 @@ same-length-2 c = search needs
 returns-2 : tie.Need-returns-2
 returns-2 c =
     let a = c .before .before .before .before .before .before .before .before .before .before .before .before .before .args in
-    joins-refused (now (a .input)) _ (now (a .table)) _ (c .before .before .before .before .before .before .before .before .before .if1 .left) (c .before .before .before .before .before .before .before .join-input .ensures) _ (now (a .output)) _ (c .before .before .before .before .if2 .taken) (c .before .before .put-refusal .ensures)
+    joins-refused (now (a .input)) _ (now (a .table)) _ (c .before .before .before .before .before .before .before .before .before .if1 .left) (c .before .before .before .before .before .before .before .join-input .ensures) _ (now (a .output)) _ (c .before .before .before .before .if2 .taken) _ (c .before .before .put-refusal .ensures) (omega arith)
 
 put-joined-requires : tie.Need-put-joined-requires
 put-joined-requires c κs =

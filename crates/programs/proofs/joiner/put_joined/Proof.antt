@@ -40,7 +40,7 @@ same-length c = search needs
 
 returns-2 : tie.Need-returns-2
 returns-2 c =
-    named-board _ _ _ (sym (c .before .before .before .before .before .before .before .before .header .given .1) ∙ c .before .before .before .before .before .before .before .before .before .before .header-in .ensures) _ (now (c .before .before .before .before .before .before .before .before .before .before .before .before .before .before .args .table)) _ _ (c .before .before .put-text .ensures)
+    named-board _ _ _ (sym (c .before .before .before .before .before .before .before .before .header .given .1) ∙ c .before .before .before .before .before .before .before .before .before .before .header-in .ensures) _ (now (c .before .before .before .before .before .before .before .before .before .before .before .before .before .before .args .table)) _ _ _ _ _ (c .before .before .put-text .ensures) (omega arith) (omega arith) (omega arith)
 
 pub put-joined-spec : {M : Type 1} → statement M
 put-joined-spec =

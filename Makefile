@@ -1,0 +1,44 @@
+# The C library for board makers and app makers: header, archive and a pkg-config file.
+#   make                          proves the library and builds the archive with rt, where it is absent or older than a source
+#   make install PREFIX=/usr      installs; DESTDIR is put in front of every path, as packages want it
+#   make uninstall PREFIX=/usr    removes what install put there
+#   make test                     the C tests (tests/run-c)
+PREFIX ?= /usr/local
+INCLUDEDIR ?= $(PREFIX)/include
+LIBDIR ?= $(PREFIX)/lib
+PKGCONFIGDIR ?= $(LIBDIR)/pkgconfig
+VERSION = 0.1.0
+RT ?= rt
+INSTALL ?= install
+
+HEADER = include/nosingginger.h
+ARCHIVE = target/staticlib/libnosingginger_c.a
+SOURCES = crates.txt $(wildcard crates/*/src/*.rt crates/*/specs/*.antt)
+
+all: $(ARCHIVE)
+
+$(ARCHIVE): $(SOURCES)
+	$(RT) staticlib nosingginger_c
+	touch $@
+
+target/nosingginger.pc: Makefile FORCE
+	mkdir -p target
+	printf '%s\n' 'prefix=$(PREFIX)' 'includedir=$(INCLUDEDIR)' 'libdir=$(LIBDIR)' '' \
+	    'Name: nosingginger' 'Description: Keys for a hidden piece on a square-root grid, proved' 'Version: $(VERSION)' \
+	    'Cflags: -I$${includedir}' 'Libs: -L$${libdir} -lnosingginger_c' > $@
+
+install: $(ARCHIVE) target/nosingginger.pc
+	$(INSTALL) -d '$(DESTDIR)$(INCLUDEDIR)' '$(DESTDIR)$(LIBDIR)' '$(DESTDIR)$(PKGCONFIGDIR)'
+	$(INSTALL) -m 644 $(HEADER) '$(DESTDIR)$(INCLUDEDIR)/nosingginger.h'
+	$(INSTALL) -m 644 $(ARCHIVE) '$(DESTDIR)$(LIBDIR)/libnosingginger_c.a'
+	$(INSTALL) -m 644 target/nosingginger.pc '$(DESTDIR)$(PKGCONFIGDIR)/nosingginger.pc'
+
+uninstall:
+	rm -f '$(DESTDIR)$(INCLUDEDIR)/nosingginger.h' '$(DESTDIR)$(LIBDIR)/libnosingginger_c.a' '$(DESTDIR)$(PKGCONFIGDIR)/nosingginger.pc'
+
+test: $(ARCHIVE)
+	tests/run-c
+
+FORCE:
+
+.PHONY: all install uninstall test FORCE

@@ -1,0 +1,2 @@
+-- What is written through a pointer. Assumes nothing.
+pub mod Pointers

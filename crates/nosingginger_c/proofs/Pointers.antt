@@ -1,0 +1,44 @@
+-- What a C function leaves behind a pointer, from what the operation under it answers. Assumes nothing.
+use mathlib.Core.Path.{_≡_, refl, subst, _∙_}
+use mathlib.Core.Bool.{Bool, true, false, cond}
+use mathlib.Core.List.{List, []}
+use Prim.Native.Nat.{ℕ}
+use borrow.Author.Tests.{ne-eqb}
+use lib.Dec.{eqb}
+use Rattle.keys.specs.Answers.{checked-as, key-checked}
+use Rattle.keys.specs.declared.reader.Header.{Header}
+use Rattle.keys.specs.declared.check.KeyCheck.{KeyCheck}
+use Rattle.keys.proofs.Holding.{refused-says}
+use Rattle.nosingginger.specs.Entry.{says}
+use Rattle.nosingginger.specs.declared.Answer.{Answer}
+use Rattle.nosingginger_c.specs.C.{Through, Value-put, Check-says}
+
+pub value-kept : (n v o : ℕ) → (n ≡ 0 → ⊥) → Value-put n v n o o
+unfolding Value-put
+value-kept n v o h = (refl, rw (ne-eqb n 0 h))
+
+pub value-written : (n v o : ℕ) → n ≡ 0 → Value-put n v 0 o v
+unfolding Value-put
+value-written n v o h = rw h (refl, refl)
+
+-- an answer whose value was put is the operation's answer through the pointer
+pub through : (n v : ℕ) (a : Answer) (r o z : ℕ) → says n v a → Value-put (a .refusal) (a .value) r o z → Through (λ b. says n v b) r o z
+unfolding says Value-put Through
+through n v a r o z s p =
+    let value : z ≡ cond (eqb n 0) (a .value) o = subst (λ (m : ℕ). z ≡ cond (eqb m 0) (a .value) o) (s .0) (p .1) in
+    let both = go (eqb n 0) (s .1) value in rw (p .0 ∙ s .0) ((refl, both .0), both .1)
+  where
+    go : (t : Bool) → a .value ≡ cond t v 0 → z ≡ cond t (a .value) o → (cond t z 0 ≡ cond t v 0) × (z ≡ cond t z o)
+    go true e f = (f ∙ e, refl)
+    go false e f = (refl, f)
+
+pub check-refused : (ks o : List ℕ) (n : ℕ) → checked-as (KeyCheck.Refused n) ≡ key-checked ks → Check-says ks n o o
+unfolding Check-says checked-as
+check-refused ks o n e =
+    let none : (n ≡ 0 → ⊥) = λ z. refused-says ks n e .1 (refused-says ks n e .0 ∙ z) in
+    rw (ne-eqb n 0 none) (e, refl)
+
+pub check-accepted : (ks o z : List ℕ) (h : Header) → checked-as (KeyCheck.Accepted h) ≡ key-checked ks
+    → z ≡ checked-as (KeyCheck.Accepted h) .numbers → Check-says ks 0 o z
+unfolding Check-says checked-as
+check-accepted ks o z h e f = rw f (e, refl)

@@ -1,0 +1,22 @@
+-- What the C functions answer and leave behind: the contracts of the operations, with what C is given through a pointer.
+-- Assumes nothing: these are definitions.
+use mathlib.Core.Path.{_≡_}
+use mathlib.Core.Bool.{cond}
+use mathlib.Core.List.{List, []}
+use Prim.Native.Nat.{ℕ}
+use lib.Dec.{eqb}
+use Rattle.nosingginger.specs.declared.Answer.{Answer}
+use Rattle.keys.specs.Answers.{Checked, key-checked}
+
+-- a number returned and a value behind a pointer, as the operation's one answer; where it is refused the value keeps what stood there
+unfoldable pub Through : (says : Answer → Type 0) → (r old new : ℕ) → Type 0
+Through A r o z = A (record { refusal = r; value = cond (eqb r 0) z 0 }) × (z ≡ cond (eqb r 0) z o)
+
+-- what is written through the pointer: the value of an accepted answer
+unfoldable pub Value-put : (refusal value : ℕ) → (r old new : ℕ) → Type 0
+Value-put n v r o z = (r ≡ n) × (z ≡ cond (eqb n 0) v o)
+
+-- CHECK KEY: the number returned, and the header's five numbers, or what stood there
+unfoldable pub Check-says : (key : List ℕ) → (r : ℕ) → (old new : List ℕ) → Type 0
+Check-says ks r o z =
+    (record { refusal = r; numbers = cond (eqb r 0) z [] } ≡ key-checked ks) × (z ≡ cond (eqb r 0) z o)

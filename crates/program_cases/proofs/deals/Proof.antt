@@ -1,0 +1,38 @@
+-- `program_cases::deals` is safe: no more is written than the output has room for. Assumes nothing.
+use mathlib.Core.Path.{sym}
+use native.Mathlib.Omega.{arith}
+use lib.Seq.{length-take-le}
+use Rattle.programs.proofs.Writing.{writes-within}
+use borrow.Author.Needs.{needs}
+use Rattle.program_cases.proofs.deals.Statement.{statement}
+use Rattle.program_cases.proofs.deals.Tie as tie
+
+slice-aggregate-dealing-program : tie.Need-slice-aggregate-dealing-program
+slice-aggregate-dealing-program c = search needs
+
+dealing-program-requires : tie.Need-dealing-program-requires
+dealing-program-requires c κs = search needs
+
+array-share-prefix-output : tie.Need-array-share-prefix-output
+array-share-prefix-output c = writes-within _ _ _ _ (c .before .dealing-program .ensures)
+
+slice-aggregate-stored : tie.Need-slice-aggregate-stored
+slice-aggregate-stored c =
+    let p = c .before .before .dealing-program in sym (length-take-le (p .result) (p .last .1 .0) (writes-within _ _ _ _ (p .ensures)))
+
+stored-requires : tie.Need-stored-requires
+stored-requires c κs = search needs
+
+returns : tie.Need-returns
+returns c = search needs
+
+pub deals-spec : {M : Type 1} → statement M
+deals-spec =
+    tie.close
+    (tie.spec
+    slice-aggregate-dealing-program
+    dealing-program-requires
+    array-share-prefix-output
+    slice-aggregate-stored
+    stored-requires
+    returns)

@@ -1,0 +1,42 @@
+-- `program_cases::joins` is safe: no more is written than the output has room for. Assumes nothing.
+use mathlib.Core.Path.{sym}
+use native.Mathlib.Omega.{arith}
+use lib.Seq.{length-take-le}
+use Rattle.programs.proofs.Joinings.{joins-within}
+use borrow.Author.Needs.{needs}
+use Rattle.program_cases.proofs.joins.Statement.{statement}
+use Rattle.program_cases.proofs.joins.Tie as tie
+
+slice-aggregate-joining-program : tie.Need-slice-aggregate-joining-program
+slice-aggregate-joining-program c = search needs
+
+slice-aggregate-joining-program-2 : tie.Need-slice-aggregate-joining-program-2
+slice-aggregate-joining-program-2 c = search needs
+
+joining-program-requires : tie.Need-joining-program-requires
+joining-program-requires c κs = search needs
+
+array-share-prefix-output : tie.Need-array-share-prefix-output
+array-share-prefix-output c = joins-within _ _ _ _ _ _ _ (c .before .before .joining-program .ensures)
+
+slice-aggregate-stored : tie.Need-slice-aggregate-stored
+slice-aggregate-stored c =
+    let p = c .before .before .before .joining-program in sym (length-take-le (p .result) (p .last .1 .1 .0) (joins-within _ _ _ _ _ _ _ (p .ensures)))
+
+stored-requires : tie.Need-stored-requires
+stored-requires c κs = search needs
+
+returns : tie.Need-returns
+returns c = search needs
+
+pub joins-spec : {M : Type 1} → statement M
+joins-spec =
+    tie.close
+    (tie.spec
+    slice-aggregate-joining-program
+    slice-aggregate-joining-program-2
+    joining-program-requires
+    array-share-prefix-output
+    slice-aggregate-stored
+    stored-requires
+    returns)

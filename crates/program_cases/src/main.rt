@@ -1,0 +1,127 @@
+// The two programs' functions on the cases of data/, whose inputs and outputs the second implementation made (make-data.sh). A line of
+// the list, data/cases, names a program, the file that it reads and the file that it must write, with one space between them. Each case
+// is compared as this program runs, and a line says whether what is written is equal to the file, byte for byte. Assumes nothing.
+use libc::STDOUT_FILENO;
+ghost use Prim.Native.Nat.{_≤_, _<_};
+ghost use lib.ListN.{length};
+
+// Whether a file of data/ has these bytes and no others.
+fn stored(bytes: &[u8], path: &[u8]) -> bool {
+    let file = os::open_read(path);
+    if file < 0 {
+        os::fail(path);
+        return false;
+    }
+    let mut expected = [0u8; 600001];
+    let length = io::read_full(file, &mut expected);
+    libc::close(file);
+    check::same(bytes, &expected[..length])
+}
+
+// Whether the dealing program writes the file.
+fn deals(input: &[u8], path: &[u8]) -> bool {
+    let mut output = [0u8; 65536];
+    let written = programs::dealing_program(input, &mut output);
+    stored(&output[..written], path)
+}
+
+// Whether the joining program writes the file.
+fn joins(input: &[u8], path: &[u8]) -> bool {
+    let mut table = [0u8; 65536];
+    let mut output = [0u8; 600000];
+    let written = programs::joining_program(input, &mut table, &mut output);
+    stored(&output[..written], path)
+}
+
+// Whether the program of this name writes the one file when it reads the other. It reads one byte more than the most.
+fn equal(program: &[u8], input_path: &[u8], output_path: &[u8]) -> bool {
+    let file = os::open_read(input_path);
+    if file < 0 {
+        os::fail(input_path);
+        return false;
+    }
+    let mut input = [0u8; 65537];
+    let length = io::read_full(file, &mut input);
+    libc::close(file);
+    if check::same(program, b"deal") {
+        return deals(&input[..length], output_path);
+    }
+    if check::same(program, b"join") {
+        return joins(&input[..length], output_path);
+    }
+    false
+}
+
+// The end of a line: what a comparison has found.
+fn found(equal: bool) {
+    if equal {
+        io::write_all(STDOUT_FILENO, b": equal\n");
+    } else {
+        io::write_all(STDOUT_FILENO, b": DIFFERENT\n");
+    }
+}
+
+// Where the word that begins at a place ends: at the next space or line feed, or with the list.
+fn word_end(list: &[u8], from: usize) -> usize
+    requires { ⌜ from ≤ length (now list) ⌝ }
+    ensures { λ r. ⌜ (from ≤ r) × (r ≤ length (now (list .entry))) ⌝ }
+{
+    let mut at = from;
+    while at < list.len() {
+        if list[at] == b' ' {
+            return at;
+        }
+        if list[at] == b'\n' {
+            return at;
+        }
+        at += 1;
+    }
+    at
+}
+
+// Where the word behind this end begins.
+fn next_word(list: &[u8], end: usize) -> usize
+    requires { ⌜ end ≤ length (now list) ⌝ }
+    ensures { λ r. ⌜ (end ≤ r) × (r ≤ length (now (list .entry))) ⌝ }
+{
+    if end < list.len() { end + 1 } else { end }
+}
+
+// Runs the case of the line that begins at a place, and answers where the next one begins.
+fn run_line(list: &[u8], at: usize) -> usize
+    requires { ⌜ at < length (now list) ⌝ }
+    ensures { λ r. ⌜ at < r ⌝ }
+{
+    let program_end = word_end(list, at);
+    let input = next_word(list, program_end);
+    let input_end = word_end(list, input);
+    let output = next_word(list, input_end);
+    let output_end = word_end(list, output);
+    io::write_all(STDOUT_FILENO, &list[at..input_end]);
+    found(equal(
+        &list[at..program_end],
+        &list[input..input_end],
+        &list[output..output_end],
+    ));
+    output_end + 1
+}
+
+// Runs the cases of the list, a line after another.
+fn run(list: &[u8]) {
+    let mut at: usize = 0;
+    while at < list.len() {
+        at = run_line(list, at);
+    }
+}
+
+fn main() {
+    let file = os::open_read(b"cases");
+    if file < 0 {
+        os::fail(b"cases");
+        return;
+    }
+    let mut list = io::large_buffer();
+    let length = io::read_full(file, &mut list);
+    libc::close(file);
+    run(&list[..length]);
+}

@@ -1,0 +1,86 @@
+-- THE PROMISES, whole and in one place. The record `Promises` has one field for each; its type is the statement, written down beside the
+-- definitions that it speaks of, and proofs/Promise.antt has the one term of the record. All hold for every number of players, every number
+-- of positions, every grid width and every value width at once. Quotations are document 01's. Assumes nothing.
+use Rattle.grid.specs.Grid.{Board}
+unfoldable pub use Rattle.grid.specs.Arrays.{Each-column-once, Half-is-marked, Half-of-each-row, One-row-unheld}
+unfoldable pub use Rattle.grid.specs.Joining.{Shares-join, Words-join, Last-word-completes, Piece-cells}
+unfoldable pub use Rattle.grid.specs.Hiding.{Tells-nothing, Just-one-dealing, No-other-dealing}
+unfoldable pub use Rattle.grid.specs.Moving.{Moved-is-named, Moving-finds}
+unfoldable pub use Rattle.keys.specs.Promise.{Rule-good, Header-reads, Reads-parts, Only-writing, Same-parts, Dealt-accepted, Keys-long, Keys-apart, Table-long, Opens-alone, Keys-open, Tables-join, Full-tables-join}
+use Rattle.keys.specs.Document03
+use Rattle.nosingginger.specs.Entry.{rule}
+unfoldable pub use Rattle.promises.specs.Calls.{Deals-open, Accepted-opens, Opens-agree, Joins-agree}
+pub use Rattle.promises.specs.Calls.{Refused-leaves, Answered-keeps}
+unfoldable pub use Rattle.promises.specs.Marked.{Marked-deals}
+
+-- "A row rule gives each 32-byte seed some μ × w bytes; expansion is one"
+unfoldable pub Expansion-is-a-rule : Type 0
+Expansion-is-a-rule = (b : Board) → Rule-good b (λ seed. rule b seed)
+
+pub record Promises : Type 0 where
+  -- THE SECOND DEMAND, beside the contracts of Entry.antt and JoinKeys.antt: keys as bytes
+  -- a header is the only writing of its numbers, and the rest of the key stands behind it
+  pub header-reads : Header-reads
+  -- a dealt key is read as the parts dealt
+  pub reads-parts : Reads-parts
+  -- an accepted key is the only writing of its parts, so two with the same header numbers and parts are the same key
+  pub only-writing : Only-writing
+  pub same-parts : Same-parts
+  -- a dealt key is accepted and has K bytes; Deal writes p × K bytes, and these cut after every K are the keys
+  pub dealt-accepted : Dealt-accepted
+  pub keys-long : Keys-long
+  pub keys-apart : Keys-apart
+  -- THE THIRD DEMAND, first part: every player's table, joined, shows the piece and nothing else
+  -- under every row rule, all players' shares XOR to the value on the point's square and to zero on every other
+  pub tables-join : Tables-join
+  -- the same of full tables
+  pub full-tables-join : Full-tables-join
+  -- a full table has N × w bytes
+  pub table-long : Table-long
+  -- expansion is a row rule
+  pub expansion-is-a-rule : Expansion-is-a-rule
+  -- THE THIRD DEMAND, second part: a square opened alone
+  -- every accepted key, dealt or not, opens a square alone as that entry of its own full table
+  pub opens-alone : Opens-alone
+  -- a dealt key opens as the dealing's share
+  pub keys-open : Keys-open
+  -- THE THIRD DEMAND, third part: with rows freely drawn, all players but one together learn nothing of the piece
+  -- whichever player is left out, whatever point, value and unheld rows are named, just one dealing has these and gives everybody else the
+  -- same keys; in the second statement "the chosen rows are any μ × w bytes, one at that place in each grid row but the named point's"
+  pub tells-nothing : Tells-nothing
+  pub just-one-dealing : Just-one-dealing
+  -- that dealing is `moved`, and from the other side the same step leads back: dealings of two pieces are matched one to one
+  pub moved-is-named : Moved-is-named
+  pub moving-finds : Moving-finds
+  pub no-other-dealing : No-other-dealing
+  -- "each grid row has exactly one row not so held"
+  pub one-row-unheld : One-row-unheld
+  -- OF THE CALLS THEMSELVES, with expansion as the rule, from their contracts alone
+  -- "Deal's p × K bytes, cut after every K, each key given to Open all"
+  pub deals-open : Deals-open
+  -- "and any accepted key given to Open all and Open one, where 9 doesn't refuse"
+  pub accepted-opens : Accepted-opens
+  pub opens-agree : Opens-agree
+  -- Join keys is Open all of each key, and XOR
+  pub joins-agree : Joins-agree
+  -- "A refusal returns its number and leaves all lent bytes unchanged. Output past the bytes named keeps its bytes."
+  pub refused-leaves : Refused-leaves
+  pub answered-keeps : Answered-keeps
+  -- WHAT THEY REST ON: arrays and words
+  -- "An even array holds every column of p bits with an even count of ones exactly once; an odd array every column with an odd count."
+  pub each-column-once : Each-column-once
+  -- "A player marks exactly J/2 columns."
+  pub half-is-marked : Half-is-marked
+  pub half-of-each-row : Half-of-each-row
+  -- good dealings' shares join; what all words and rows of a grid row make; the last word completes it; the piece's cells
+  pub shares-join : Shares-join
+  pub words-join : Words-join
+  pub last-word-completes : Last-word-completes
+  pub piece-cells : Piece-cells
+  -- THE MARKED DEALS, all † lines in one table
+  pub marked-deals : Marked-deals
+  -- DOCUMENT 03'S OWN STATEMENTS, where those above ask less of a rule or read less of a key
+  pub document-03-tables-join : Document03.Tables-join
+  pub document-03-keys-open : Document03.Keys-open
+  pub document-03-opens-alone : Document03.Opens-alone
+  pub document-03-reads-parts : Document03.Reads-parts

@@ -1,0 +1,162 @@
+/* nosingginger.h: keys for a hidden piece on a square-root grid, for board makers and app makers.
+
+   A board hides a piece: it deals each of 2 to 6 players a key and forgets where the piece is. One player opens any square of the board
+   as noise; when all players open the same square, the XOR of their bytes is the piece's value on the piece's square and zero on every
+   other. All players but one, side by side, learn nothing of the piece.
+
+   The words used below
+     players       2 to 6, numbered from 0.
+     positions     the squares of the board, 1 to 65,536, numbered from 0. The point is the piece's position.
+     width         of the grid, 1 to 256: position a lies in grid row a / width, in cell a % width. nsg_choose_width gives a good one.
+     value_bytes   bytes of the piece's value, 1 to 16. A value of zeros is allowed, and is nowhere to be seen when joined.
+     columns       NSG_COLUMNS(players): each grid row has that many columns, each with a column byte, a seed and a row.
+     grid rows     NSG_GRID_ROWS(positions, width), at most 256.
+     seed          32 bytes. Its row is the first width * value_bytes bytes of ChaCha20's key stream (RFC 8439; nonce 0, counter from 0).
+     share         what one player's key says of one position: value_bytes bytes, noise by themselves.
+     table         the shares of all positions of one player, or all of them joined: entry a is the value_bytes bytes from a * value_bytes on.
+
+   What holds of every call
+     - It returns NSG_ACCEPTED, or the first refusal number that fits, in the order that is given at the function. (nsg_held_seed alone has
+       no refusal numbers.) Numbers and bytes may be of any kind: no call is undefined by what they say.
+     - A refused call leaves every lent byte as it was, outputs too. An accepted call writes exactly the bytes named, from the output's first
+       on; bytes of the output past those keep what they had.
+     - Bytes are lent as a pointer and a length in bytes. Lengths are uint64_t on all targets, 32-bit ones too.
+     - NO POINTER MAY BE NULL, not even with length 0. For an empty slice pass any valid pointer that is not NULL, and length 0.
+     - The bytes written must not overlap other bytes lent to the same call: an output or a uint32_t result that shares memory with an
+       input is undefined. Inputs may overlap each other. Every pointer must be good for the whole length that is passed with it.
+     - uint32_t results are aligned as the machine wants a uint32_t. Byte pointers need no alignment.
+     - A call holds no state: it keeps no pointer, allocates nothing, reads no file, draws no random bytes, and calls at most memcpy, memmove
+       and memset. Calls may run on several threads at once, also on the same input; outputs of calls that run at once must be apart.
+     - A call needs stack: see NSG_STACK_BYTES.
+
+   How long a call takes is not proved to be independent of the bytes in a key. Drawing random bytes is the caller's part: the proof that
+   players learn nothing holds for arrays that are shuffled uniformly and seeds that nobody can tell from freely drawn ones. */
+#ifndef NOSINGGINGER_H
+#define NOSINGGINGER_H
+
+#include <stdint.h>
+
+#ifdef __cplusplus
+extern "C" {
+#endif
+
+/* THE BOUNDS. */
+#define NSG_LEAST_PLAYERS 2u
+#define NSG_MOST_PLAYERS 6u
+#define NSG_MOST_POSITIONS 65536u   /* the least is 1, as for the three below */
+#define NSG_MOST_WIDTH 256u
+#define NSG_MOST_VALUE_BYTES 16u
+#define NSG_MOST_GRID_ROWS 256u
+#define NSG_MOST_COLUMNS 32u
+#define NSG_SEED_BYTES 32u
+#define NSG_MOST_EXPANDED_BYTES 4096u   /* what nsg_expand fills at most: the longest row there is */
+#define NSG_SENSORS 72u                 /* of the spring board, nine lines of eight squares */
+#define NSG_HEADER_NUMBERS 5u           /* what nsg_check_key gives */
+
+/* Stack that a call may need: a thread with this much to spare is enough. Measured on x86-64 Linux a call takes about 5 KiB; the tests
+   measure every call and fail above this figure. A board with less to spare measures its own build. */
+#define NSG_STACK_BYTES 32768u
+
+/* SIZES OF BUFFERS, for numbers in the bounds above (a macro evaluates an argument more than once; pass plain unsigned numbers). */
+#define NSG_COLUMNS(players) (1u << ((players) - 1u))
+#define NSG_GRID_ROWS(positions, width) (((positions) + (width) - 1u) / (width))
+#define NSG_ARRAYS_BYTES(players, positions, width) (NSG_GRID_ROWS(positions, width) * NSG_COLUMNS(players))
+#define NSG_SEEDS_BYTES(players, positions, width) (NSG_ARRAYS_BYTES(players, positions, width) * NSG_SEED_BYTES)
+#define NSG_WORDS_BYTES(players, width, value_bytes) ((NSG_COLUMNS(players) - 1u) * (width) * (value_bytes))
+#define NSG_TABLE_BYTES(positions, value_bytes) ((positions) * (value_bytes))
+
+/* A key's length is what nsg_key_length gives. These are the largest there are: one key, all players' keys, a table. */
+#define NSG_MOST_KEY_BYTES 263176u
+#define NSG_MOST_KEYS_BYTES 1579056u
+#define NSG_MOST_TABLE_BYTES 1048576u
+
+/* WHAT A CALL RETURNS, and what each number means. */
+#define NSG_ACCEPTED 0u             /* the call did what it says */
+#define NSG_REFUSED_PLAYERS 1u      /* the number of players is not 2 to 6 */
+#define NSG_REFUSED_POSITIONS 2u    /* the number of positions is not 1 to 65,536 */
+#define NSG_REFUSED_WIDTH 3u        /* the grid's width is not 1 to 256 */
+#define NSG_REFUSED_VALUE_BYTES 4u  /* a value's width is not 1 to 16 bytes */
+#define NSG_REFUSED_GRID_ROWS 5u    /* the board has more than 256 grid rows at this width */
+#define NSG_REFUSED_POINT 6u        /* the piece's point is none of the board's positions */
+#define NSG_REFUSED_LENT 7u         /* an input does not have the length that the numbers ask for */
+#define NSG_REFUSED_ARRAYS 8u       /* an array has a bit of no player, the wrong parity for its grid row, or a column twice */
+#define NSG_REFUSED_ROOM 9u         /* the output is too short for what is to be written */
+#define NSG_REFUSED_NUMBER 10u      /* a key's header has a number that is cut short, over three groups or not in its shortest form */
+#define NSG_REFUSED_PLAYER 11u      /* a key's player is not below its number of players */
+#define NSG_REFUSED_LENGTH 12u      /* a key, or all keys together, do not have the length that the header asks for */
+#define NSG_REFUSED_MARKS 13u       /* a key marks another number of columns than half in some grid row, or has a spare bit set */
+#define NSG_REFUSED_POSITION 14u    /* the position is none of the board's */
+#define NSG_REFUSED_PLACE 15u       /* a key is of another board than the first, or not of the player whose place it stands in */
+#define NSG_REFUSED_EXPANSION 16u   /* more than 4,096 bytes are asked of a seed */
+#define NSG_REFUSED_SENSOR 17u      /* the sensor is none of the spring board's 72 */
+
+/* CHOOSE WIDTH: a grid's width for a board, for which keys are about as short as they can be: the least width with
+   width * width >= positions * columns, or 256 where that is above 256.
+   Refusals, in this order: 1, 2. Writes *width. The board has at most 256 grid rows at the width written. */
+uint32_t nsg_choose_width(uint32_t players, uint32_t positions, uint32_t *width);
+
+/* KEY LENGTH: how many bytes each player's key has.
+   Refusals, in this order: 1, 2, 3, 4, 5. Writes *length, at most NSG_MOST_KEY_BYTES. */
+uint32_t nsg_key_length(uint32_t players, uint32_t positions, uint32_t width, uint32_t value_bytes, uint32_t *length);
+
+/* DEAL: writes the keys of all players one after another, player 0 first: players * K bytes, with K from nsg_key_length.
+     point    the piece's position.
+     value    what the piece is: value_bytes bytes.
+     arrays   NSG_ARRAYS_BYTES: for each grid row one byte for each column; bit i of it is player i's mark. The point's grid row has each number
+              below 2^players with an odd count of ones exactly once; every other grid row each with an even count exactly once; both in an
+              order drawn uniformly and anew for every grid row and every deal.
+     seeds    NSG_SEEDS_BYTES: 32 random bytes for each grid row and column, grid row by grid row. Never used for another deal.
+     words    NSG_WORDS_BYTES: random bytes, a word of width * value_bytes for each column but the last.
+     keys     the output, of players * K bytes or more.
+   Refusals, in this order: 1, 2, 3, 4, 5; 6 point; 7 value, arrays, seeds or words of another length than said above; 8 arrays; 9 keys too short.
+   The caller wipes point, value, arrays, seeds and words after the call: together they tell where the piece is. */
+uint32_t nsg_deal(uint32_t players, uint32_t positions, uint32_t width, uint32_t value_bytes, uint32_t point,
+                  const uint8_t *value, uint64_t value_length, const uint8_t *arrays, uint64_t arrays_length,
+                  const uint8_t *seeds, uint64_t seeds_length, const uint8_t *words, uint64_t words_length,
+                  uint8_t *keys, uint64_t keys_length);
+
+/* CHECK KEY: whether the bytes are a key, and whose and of which board.
+   Refusals, in this order: 10 (of any of the five numbers); 1, 2, 3, 4, 5 of the header's numbers; 11; 12; 13.
+   Writes header[0] players, header[1] player, header[2] positions, header[3] width, header[4] value bytes. */
+uint32_t nsg_check_key(const uint8_t *key, uint64_t key_length, uint32_t header[5]);
+
+/* OPEN ONE: a player's share of one position, the value_bytes bytes that nsg_open_all writes for it. It expands
+   the seeds of the position's grid row alone.
+   Refusals, in this order: those of nsg_check_key; 14 position; 9 output under value_bytes. Writes value_bytes bytes. */
+uint32_t nsg_open_one(const uint8_t *key, uint64_t key_length, uint32_t position, uint8_t *out, uint64_t out_length);
+
+/* OPEN ALL: a player's table, the share of every position.
+   Refusals, in this order: those of nsg_check_key; 9 output under positions * value_bytes. Writes positions * value_bytes bytes. */
+uint32_t nsg_open_all(const uint8_t *key, uint64_t key_length, uint8_t *out, uint64_t out_length);
+
+/* JOIN SHARES: the XOR of all players' shares of one position: the value on the piece's square, zeros on every other.
+     shares   players * value_bytes bytes, one share after another, in any order of players.
+   Refusals, in this order: 1; 4; 7 shares of another length; 9 output under value_bytes. Writes value_bytes bytes. */
+uint32_t nsg_join_shares(uint32_t players, uint32_t value_bytes, const uint8_t *shares, uint64_t shares_length,
+                         uint8_t *out, uint64_t out_length);
+
+/* JOIN KEYS: the joined table of a match, from all its keys one after another, player 0's first, as nsg_deal writes them.
+   Refusals, in this order: of the first key 10, 1, 2, 3, 4, 5, 11; 12 where all keys together are not players * K bytes by the first header;
+   then for each key in turn, the first too: its 10, 1, 2, 3, 4, 5, 11, then 15, then 13; last 9 output under positions * value_bytes.
+   Writes positions * value_bytes bytes. Keys of one board that come from different deals are not refused: they join to noise. */
+uint32_t nsg_join_keys(const uint8_t *keys, uint64_t keys_length, uint8_t *out, uint64_t out_length);
+
+/* HELD SEED: where in the key the 32 bytes of the seed of a grid row and column begin: key + result. 0 where the key has none: nsg_check_key
+   refuses the key, the grid row or the column does not exist, or the player does not mark that column. (A held seed never begins at 0: the
+   header stands there.) Writes nothing. */
+uint64_t nsg_held_seed(const uint8_t *key, uint64_t key_length, uint32_t grid_row, uint32_t column);
+
+/* EXPAND: fills the output with the first out_length bytes of the seed's key stream. Length 0 is accepted.
+   Refusals, in this order: 7 seed not of 32 bytes; 16 output above NSG_MOST_EXPANDED_BYTES. Writes out_length bytes. */
+uint32_t nsg_expand(const uint8_t *seed, uint64_t seed_length, uint8_t *out, uint64_t out_length);
+
+/* SENSOR POSITION: the position that a sensor of the spring board lies under. Sensors run to and fro over nine lines of eight squares: with
+   line l = sensor / 8 and c = sensor % 8, position 8 * l + c on even lines and 8 * l + 7 - c on odd ones.
+   Refusals: 17. Writes *position. */
+uint32_t nsg_sensor_position(uint32_t sensor, uint32_t *position);
+
+#ifdef __cplusplus
+}
+#endif
+
+#endif

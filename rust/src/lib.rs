@@ -1,0 +1,259 @@
+#![doc = include_str!("../README.md")]
+#![deny(missing_docs)]
+
+pub mod raw;
+mod refusal;
+
+pub use refusal::Refusal;
+
+/// The bytes of a seed.
+pub const SEED_BYTES: usize = 32;
+
+/// A board as a grid. [`key_length`] says whether its numbers are in their ranges.
+#[derive(Clone, Copy, Debug, PartialEq, Eq, Hash)]
+pub struct Board {
+    /// Players, 2 to 6.
+    pub players: u32,
+    /// Positions, 1 to 65,536, numbered from 0: the squares of the board.
+    pub positions: u32,
+    /// Grid width, 1 to 256: the cells of a grid row. Position a lies in grid row a div width, cell a mod width, and there are at most 256
+    /// grid rows. [`choose_width`] gives the one that makes keys short.
+    pub width: u32,
+    /// Value width, 1 to 16: the bytes of a value and of a share.
+    pub value_bytes: u32,
+}
+
+/// What [`deal`] is lent, but for its output. An array has a column for each set of players of one parity: 2^(players − 1) columns.
+#[derive(Clone, Copy, Debug)]
+pub struct Dealing<'a> {
+    /// The board.
+    pub board: Board,
+    /// The piece's position.
+    pub point: u32,
+    /// The piece: value_bytes bytes. Zero is allowed.
+    pub value: &'a [u8],
+    /// An array for each grid row: one byte for each column, bit i of a column being player i's mark. The array of the piece's grid row
+    /// has each column of an odd count of ones exactly once, every other array each of an even count, in an order drawn at random.
+    pub arrays: &'a [u8],
+    /// A seed of 32 random bytes for each column of each array, in the order of the arrays.
+    pub seeds: &'a [u8],
+    /// The correction words of all columns but the last: width × value_bytes random bytes for each.
+    pub words: &'a [u8],
+}
+
+/// The numbers of an accepted key's header.
+#[derive(Clone, Copy, Debug, PartialEq, Eq, Hash)]
+pub struct Header {
+    /// The board that the key was dealt for.
+    pub board: Board,
+    /// The player that the key was dealt to, numbered from 0.
+    pub player: u32,
+}
+
+/// The library's answer as a result. It gives 0 and the numbers of refusals alone.
+fn answered(number: u32) -> Result<(), Refusal> {
+    match Refusal::from_number(number) {
+        Some(refusal) => Err(refusal),
+        None => {
+            assert_eq!(number, 0, "the library gives no such number");
+            Ok(())
+        }
+    }
+}
+
+/// A slice as the library takes it.
+fn lent(bytes: &[u8]) -> (*const u8, u64) {
+    (bytes.as_ptr(), bytes.len() as u64)
+}
+
+/// An output as the library takes it.
+fn lent_out(bytes: &mut [u8]) -> (*mut u8, u64) {
+    (bytes.as_mut_ptr(), bytes.len() as u64)
+}
+
+// Each call below lends slices whole, for the length of the call; a mutable one overlaps no other, by Rust's own rule. That is all that
+// the functions of `raw` ask, since a slice's pointer is never null.
+
+/// **Key length**: the bytes of each player's key.
+///
+/// Refuses [`Players`](Refusal::Players), [`Positions`](Refusal::Positions), [`Width`](Refusal::Width),
+/// [`ValueBytes`](Refusal::ValueBytes), [`GridRows`](Refusal::GridRows).
+///
+/// ```
+/// # use nosingginger::{key_length, Board, Refusal};
+/// let spring = Board { players: 4, positions: 72, width: 24, value_bytes: 1 };
+/// assert_eq!(key_length(spring), Ok(584));
+/// assert_eq!(key_length(Board { width: 0, ..spring }), Err(Refusal::Width));
+/// ```
+pub fn key_length(board: Board) -> Result<u32, Refusal> {
+    let mut length = 0;
+    let number = unsafe { raw::nsg_key_length(board.players, board.positions, board.width, board.value_bytes, &mut length) };
+    answered(number).map(|()| length)
+}
+
+/// **Deal**: writes the keys of all players one after another, player 0 first. That takes players × [`key_length`] bytes.
+///
+/// Refuses as [`key_length`], then [`Point`](Refusal::Point), [`InputLength`](Refusal::InputLength), [`Array`](Refusal::Array),
+/// [`OutputLength`](Refusal::OutputLength).
+pub fn deal(dealing: &Dealing<'_>, keys: &mut [u8]) -> Result<(), Refusal> {
+    let board = dealing.board;
+    let (value, value_length) = lent(dealing.value);
+    let (arrays, arrays_length) = lent(dealing.arrays);
+    let (seeds, seeds_length) = lent(dealing.seeds);
+    let (words, words_length) = lent(dealing.words);
+    let (keys, keys_length) = lent_out(keys);
+    answered(unsafe {
+        raw::nsg_deal(
+            board.players,
+            board.positions,
+            board.width,
+            board.value_bytes,
+            dealing.point,
+            value,
+            value_length,
+            arrays,
+            arrays_length,
+            seeds,
+            seeds_length,
+            words,
+            words_length,
+            keys,
+            keys_length,
+        )
+    })
+}
+
+/// **Check key**: the header's numbers of a key that can be opened.
+///
+/// Refuses [`HeaderNumber`](Refusal::HeaderNumber), then as [`key_length`], then [`Player`](Refusal::Player),
+/// [`KeyLength`](Refusal::KeyLength), [`Marks`](Refusal::Marks).
+///
+/// ```
+/// # use nosingginger::{check_key, Refusal};
+/// assert_eq!(check_key(&[]), Err(Refusal::HeaderNumber));
+/// assert_eq!(check_key(&[2, 0, 6, 4, 1]), Err(Refusal::KeyLength));
+/// ```
+pub fn check_key(key: &[u8]) -> Result<Header, Refusal> {
+    let (key, length) = lent(key);
+    let mut header = [0; 5];
+    answered(unsafe { raw::nsg_check_key(key, length, &mut header) })?;
+    let [players, player, positions, width, value_bytes] = header;
+    let board = Board { players, positions, width, value_bytes };
+    Ok(Header { board, player })
+}
+
+/// **Open one**: writes the key's share of one position, value_bytes bytes.
+///
+/// Refuses as [`check_key`], then [`Position`](Refusal::Position), [`OutputLength`](Refusal::OutputLength).
+pub fn open_one(key: &[u8], position: u32, share: &mut [u8]) -> Result<(), Refusal> {
+    let (key, length) = lent(key);
+    let (share, share_length) = lent_out(share);
+    answered(unsafe { raw::nsg_open_one(key, length, position, share, share_length) })
+}
+
+/// **Open all** (full-domain evaluation): writes the key's shares of all positions, positions × value_bytes bytes.
+///
+/// Refuses as [`check_key`], then [`OutputLength`](Refusal::OutputLength).
+pub fn open_all(key: &[u8], table: &mut [u8]) -> Result<(), Refusal> {
+    let (key, length) = lent(key);
+    let (table, table_length) = lent_out(table);
+    answered(unsafe { raw::nsg_open_all(key, length, table, table_length) })
+}
+
+/// **Join shares**: writes the XOR of the shares of all players, which stand one after another; value_bytes bytes.
+///
+/// Refuses [`Players`](Refusal::Players), [`ValueBytes`](Refusal::ValueBytes), [`InputLength`](Refusal::InputLength),
+/// [`OutputLength`](Refusal::OutputLength).
+///
+/// ```
+/// # use nosingginger::{join_shares, Refusal};
+/// let mut value = [0; 2];
+/// join_shares(3, 2, &[1, 0, 2, 0, 4, 9], &mut value)?;
+/// assert_eq!(value, [7, 9]);
+/// # Ok::<(), Refusal>(())
+/// ```
+pub fn join_shares(players: u32, value_bytes: u32, shares: &[u8], value: &mut [u8]) -> Result<(), Refusal> {
+    let (shares, shares_length) = lent(shares);
+    let (value, value_length) = lent_out(value);
+    answered(unsafe { raw::nsg_join_shares(players, value_bytes, shares, shares_length, value, value_length) })
+}
+
+/// **Join keys**: writes the XOR of the tables of all keys, which stand one after another, player 0 first; positions × value_bytes bytes.
+///
+/// Refuses as [`check_key`] but for the length and the marks, on the first key; [`KeyLength`](Refusal::KeyLength) on all; then for each key in
+/// turn as [`check_key`] but for the length, with [`KeysDiffer`](Refusal::KeysDiffer) before [`Marks`](Refusal::Marks);
+/// last [`OutputLength`](Refusal::OutputLength).
+pub fn join_keys(keys: &[u8], table: &mut [u8]) -> Result<(), Refusal> {
+    let (keys, length) = lent(keys);
+    let (table, table_length) = lent_out(table);
+    answered(unsafe { raw::nsg_join_keys(keys, length, table, table_length) })
+}
+
+/// **Held seed**: the 32 bytes of the key itself that are the seed of a grid row and column. There are none where [`check_key`] refuses
+/// the key, where the grid row or the column does not exist, or where the key does not mark the column.
+///
+/// ```
+/// # use nosingginger::{deal, held_seed, Board, Dealing, Refusal};
+/// # let board = Board { players: 2, positions: 1, width: 1, value_bytes: 1 };
+/// # let dealing = Dealing { board, point: 0, value: &[1], arrays: &[1, 2], seeds: &[7; 64], words: &[0] };
+/// # let mut keys = [0; 80];
+/// # deal(&dealing, &mut keys)?;
+/// // Player 0 marks column 0 of the only grid row.
+/// let key = &keys[..40];
+/// assert_eq!(held_seed(key, 0, 0), Some(&key[6..38]));
+/// assert_eq!(held_seed(key, 0, 1), None);
+/// # Ok::<(), Refusal>(())
+/// ```
+pub fn held_seed(key: &[u8], grid_row: u32, column: u32) -> Option<&[u8]> {
+    let (bytes, length) = lent(key);
+    match unsafe { raw::nsg_held_seed(bytes, length, grid_row, column) } {
+        0 => None,
+        place => Some(&key[place as usize..][..SEED_BYTES]),
+    }
+}
+
+/// **Expand**: fills the row with the first bytes of the seed's ChaCha20 key stream (RFC 8439, nonce zero, counter from 0).
+///
+/// Refuses [`InputLength`](Refusal::InputLength) for a seed that has not 32 bytes, [`RowLength`](Refusal::RowLength).
+///
+/// ```
+/// # use nosingginger::{expand, Refusal};
+/// let mut row = [0; 4];
+/// expand(&[0; 32], &mut row)?;
+/// assert_eq!(row, [0x76, 0xB8, 0xE0, 0xAD]);
+/// # Ok::<(), Refusal>(())
+/// ```
+pub fn expand(seed: &[u8], row: &mut [u8]) -> Result<(), Refusal> {
+    let (seed, length) = lent(seed);
+    let (row, row_length) = lent_out(row);
+    answered(unsafe { raw::nsg_expand(seed, length, row, row_length) })
+}
+
+/// **Choose width**: the grid width that makes keys short, stopped at 256.
+///
+/// Refuses [`Players`](Refusal::Players), [`Positions`](Refusal::Positions).
+///
+/// ```
+/// assert_eq!(nosingginger::choose_width(4, 72), Ok(24));
+/// ```
+pub fn choose_width(players: u32, positions: u32) -> Result<u32, Refusal> {
+    let mut width = 0;
+    answered(unsafe { raw::nsg_choose_width(players, positions, &mut width) }).map(|()| width)
+}
+
+/// **Sensor position**: the position of a sensor of the spring board, whose 72 sensors run in a line that turns at each end.
+///
+/// Refuses [`Sensor`](Refusal::Sensor).
+///
+/// ```
+/// assert_eq!(nosingginger::sensor_position(8), Ok(15));
+/// ```
+pub fn sensor_position(sensor: u32) -> Result<u32, Refusal> {
+    let mut position = 0;
+    answered(unsafe { raw::nsg_sensor_position(sensor, &mut position) }).map(|()| position)
+}
+
+/// The repository's README, whose example runs too.
+#[cfg(doctest)]
+#[doc = include_str!("../../README.md")]
+pub struct RepositoryReadme;

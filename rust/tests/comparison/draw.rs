@@ -1,0 +1,94 @@
+//! Draws: numbers at and beyond their limits, lengths of outputs, boards.
+
+use reference::board::{Board, FEWEST_PLAYERS, MOST_GRID_ROWS, MOST_GRID_WIDTH, MOST_PLAYERS, MOST_POSITIONS, MOST_VALUE_WIDTH};
+use reference::draw::Generator;
+
+pub trait Draw {
+    /// True once in `count` draws.
+    fn one_in(&mut self, count: usize) -> bool;
+    fn pick<T: Copy>(&mut self, choices: &[T]) -> T;
+    /// A number of a range.
+    fn within(&mut self, least: u32, most: u32) -> u32;
+    /// A number of a range, mostly; else one at its ends, just outside, far outside, or in it but for a single higher bit.
+    fn near(&mut self, least: u32, most: u32) -> u32;
+    /// The length of an output that takes `exact` bytes: that, or longer, one short, empty, shorter.
+    fn output_length(&mut self, exact: usize) -> usize;
+    /// A board whose openings cost at most `most_cost`.
+    fn board(&mut self, most_cost: usize) -> Board;
+}
+
+impl Draw for Generator {
+    fn one_in(&mut self, count: usize) -> bool {
+        self.below(count) == 0
+    }
+
+    fn pick<T: Copy>(&mut self, choices: &[T]) -> T {
+        choices[self.below(choices.len())]
+    }
+
+    fn within(&mut self, least: u32, most: u32) -> u32 {
+        least + self.below((most - least + 1) as usize) as u32
+    }
+
+    fn near(&mut self, least: u32, most: u32) -> u32 {
+        match self.below(24) {
+            0 => least,
+            1 => most,
+            2 => least.wrapping_sub(1),
+            3 => most + 1,
+            4 => u32::MAX,
+            5 => self.number(),
+            6 => self.within(least, most) | 1 << self.within(5, 31),
+            _ => self.within(least, most),
+        }
+    }
+
+    fn output_length(&mut self, exact: usize) -> usize {
+        match self.below(16) {
+            0 => exact.saturating_sub(1),
+            1 => 0,
+            2 => self.below(exact + 1),
+            3 | 4 => exact + 1,
+            5 | 6 => exact + self.below(50),
+            _ => exact,
+        }
+    }
+
+    fn board(&mut self, most_cost: usize) -> Board {
+        loop {
+            let most_positions = self.pick(&[1, 12, 80, 300, 4_000, MOST_POSITIONS]);
+            let most_width = self.pick(&[1, 8, 30, MOST_GRID_WIDTH]);
+            let most_value = self.pick(&[1, 4, MOST_VALUE_WIDTH]);
+            let players = self.within(FEWEST_PLAYERS, MOST_PLAYERS);
+            let width = if self.one_in(12) { most_width } else { self.within(1, most_width) };
+            // The most grid rows, sometimes, and the last of them short or whole.
+            let positions =
+                if self.one_in(12) { MOST_GRID_ROWS * width - self.within(0, width - 1) } else { self.within(1, most_positions) };
+            let value = if self.one_in(12) { most_value } else { self.within(1, most_value) };
+            match Board::new(players, positions, width, value) {
+                Ok(board) if cost(&board) <= most_cost => return board,
+                _ => {}
+            }
+        }
+    }
+}
+
+/// About how much it takes to open and to join a board's tables: blocks of the key stream and entries.
+pub fn cost(board: &Board) -> usize {
+    let blocks = board.grid_rows() * board.row_bytes().div_ceil(64);
+    board.players * board.columns() * (blocks + board.positions / 16)
+}
+
+/// A board whose keys are as long as those of `board`, if a nearby one is: other positions in as many grid rows, or cells of another width.
+pub fn as_long(board: &Board, generator: &mut Generator) -> Option<Board> {
+    let Board { players, positions, grid_width, value_width } = *board;
+    let [players, positions, grid_width, value_width] = [players, positions, grid_width, value_width].map(|number| number as u32);
+    let other = match generator.below(4) {
+        0 => Board::new(players, positions + 1, grid_width, value_width),
+        1 => Board::new(players, positions.wrapping_sub(1), grid_width, value_width),
+        2 => Board::new(players, positions, value_width, grid_width),
+        _ => Board::new(players, positions, grid_width * 2, value_width / 2),
+    };
+    let same_length = |other: &Board| reference::key::key_bytes(other) == reference::key::key_bytes(board);
+    other.ok().filter(|other| other != board && same_length(other))
+}

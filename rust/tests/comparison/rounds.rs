@@ -1,0 +1,251 @@
+//! A round: one board, one drawn dealing, and calls about them, first right ones at the limits of their outputs, then drawn ones.
+
+use crate::calls::Comparison;
+use crate::draw::{as_long, cost, Draw};
+use crate::faults::{faulty_hand, faulty_key, hand, Keys};
+use crate::tally::Operation;
+use reference::board::{Board, FEWEST_PLAYERS, MOST_GRID_WIDTH, MOST_PLAYERS, MOST_POSITIONS, MOST_VALUE_WIDTH};
+use reference::chacha::MOST_ROW_BYTES;
+use reference::draw::Drawn;
+use reference::key::key_bytes;
+use reference::open::open_one;
+
+/// Boards (p, N, μ, w) at the limits, each visited once: document 01's own, the least and the largest numbers, 256 grid rows, a short last
+/// grid row, header numbers in one, two and three groups.
+pub const LIMIT_BOARDS: [(u32, u32, u32, u32); 22] = [
+    (2, 6, 4, 1),
+    (2, 2, 2, 1),
+    (4, 72, 24, 1),
+    (2, 1, 1, 1),
+    (6, 1, 1, 1),
+    (3, 1, 1, 16),
+    (2, 1, 256, 16),
+    (6, 1, 256, 16),
+    (2, 256, 1, 1),
+    (6, 256, 1, 16),
+    (3, 127, 127, 2),
+    (4, 128, 128, 2),
+    (5, 256, 256, 16),
+    (5, 257, 256, 1),
+    (3, 16_383, 64, 1),
+    (4, 16_384, 64, 3),
+    (2, 65_281, 256, 1),
+    (3, 65_535, 256, 1),
+    (2, 65_536, 256, 1),
+    (3, 65_536, 256, 5),
+    (2, 65_536, 256, 16),
+    (6, 65_536, 256, 16),
+];
+
+/// The costs of small, medium and large boards: the larger, the fewer of them are drawn, and the fewer calls of each.
+const SMALL: usize = 1_500;
+const MEDIUM: usize = 20_000;
+const LARGE: usize = 200_000;
+
+/// How often an operation is drawn.
+const WEIGHTS: [(Operation, usize); 11] = [
+    (Operation::KeyLength, 6),
+    (Operation::Deal, 15),
+    (Operation::CheckKey, 16),
+    (Operation::OpenOne, 16),
+    (Operation::OpenAll, 13),
+    (Operation::JoinShares, 6),
+    (Operation::JoinKeys, 18),
+    (Operation::HeldSeed, 8),
+    (Operation::Expand, 5),
+    (Operation::ChooseWidth, 4),
+    (Operation::SensorPosition, 3),
+];
+
+/// A dealing and its keys.
+pub struct Round {
+    drawn: Drawn,
+    keys: Vec<Vec<u8>>,
+    as_long: Vec<Vec<u8>>,
+    earlier: Vec<Vec<u8>>,
+}
+
+impl Comparison {
+    /// Visits a board of the list.
+    pub fn limit_board(&mut self, numbers: (u32, u32, u32, u32)) {
+        let (players, positions, grid_width, value_width) = numbers;
+        let board = Board::new(players, positions, grid_width, value_width).expect("a board in range");
+        let round = self.new_round(board, &[]);
+        self.right_calls(&round);
+        for _ in 0..if cost(&board) <= MEDIUM { 40 } else { 8 } {
+            self.drawn_call(&round);
+        }
+    }
+
+    /// Visits a drawn board, after one whose keys were `earlier`. Gives the keys of this one.
+    pub fn drawn_board(&mut self, earlier: &[Vec<u8>]) -> Vec<Vec<u8>> {
+        let (most_cost, calls) = match self.generator.below(500) {
+            0 => (LARGE, 10),
+            1..=24 => (MEDIUM, 30),
+            _ => (SMALL, 60),
+        };
+        let board = self.generator.board(most_cost);
+        let round = self.new_round(board, earlier);
+        self.right_calls(&round);
+        for _ in 0..calls {
+            self.drawn_call(&round);
+        }
+        round.keys
+    }
+
+    fn new_round(&mut self, board: Board, earlier: &[Vec<u8>]) -> Round {
+        let point = self.generator.below(board.positions);
+        let point = self.generator.pick(&[point, point, 0, board.positions - 1]);
+        let drawn = Drawn::at(board, point, &mut self.generator);
+        let other = as_long(&board, &mut self.generator);
+        let as_long = other.map_or(Vec::new(), |board| Drawn::new(board, &mut self.generator).keys());
+        Round { keys: drawn.keys(), drawn, as_long, earlier: earlier.to_vec() }
+    }
+
+    /// Every operation on a board, dealt keys and right arguments; outputs exact and one short.
+    fn right_calls(&mut self, round: &Round) {
+        let board = round.drawn.board;
+        let [players, positions, grid_width, value_width] =
+            [board.players, board.positions, board.grid_width, board.value_width].map(|number| number as u32);
+        self.key_length([players, positions, grid_width, value_width]);
+        self.choose_width(players, positions);
+        let dealt = board.players * key_bytes(&board);
+        self.deal(&hand(&round.drawn), dealt);
+        self.deal(&hand(&round.drawn), dealt - 1);
+        for key in &round.keys {
+            self.check_key(key);
+            self.held_seed(key, board.grid_rows() as u32 - 1, board.columns() as u32 - 1);
+        }
+        let player = self.generator.below(board.players);
+        let key = &round.keys[player];
+        for position in [0, round.drawn.point, positions - 1, positions] {
+            self.open_one(key, position, board.value_width);
+        }
+        self.open_one(key, 0, board.value_width - 1);
+        self.open_all(key, board.table_bytes());
+        self.open_all(key, board.table_bytes() - 1);
+        let shares = round.shares(round.drawn.point);
+        self.join_shares(players, value_width, &shares, board.value_width);
+        self.join_keys(&round.keys.concat(), board.table_bytes());
+        self.join_keys(&round.keys.concat(), board.table_bytes() - 1);
+    }
+
+    fn drawn_call(&mut self, round: &Round) {
+        match self.drawn_operation() {
+            Operation::KeyLength => {
+                let least = [FEWEST_PLAYERS, 1, 1, 1];
+                let most = [MOST_PLAYERS, MOST_POSITIONS, MOST_GRID_WIDTH, MOST_VALUE_WIDTH];
+                let numbers = [0, 1, 2, 3].map(|number| self.generator.near(least[number], most[number]));
+                self.key_length(numbers);
+            }
+            Operation::Deal => {
+                let hand = faulty_hand(&round.drawn, &mut self.generator);
+                let length = self.generator.output_length(round.drawn.board.players * key_bytes(&round.drawn.board));
+                self.deal(&hand, length);
+            }
+            Operation::CheckKey => {
+                let key = self.drawn_key(round);
+                self.check_key(&key);
+            }
+            Operation::OpenOne => self.drawn_open_one(round),
+            Operation::OpenAll => {
+                let key = self.drawn_key(round);
+                let length = self.generator.output_length(round.drawn.board.table_bytes());
+                self.open_all(&key, length);
+            }
+            Operation::JoinShares => self.drawn_join_shares(),
+            Operation::JoinKeys => {
+                let Round { drawn, keys, as_long, earlier } = round;
+                let keys = Keys { board: drawn.board, keys, as_long, earlier }.faulty(&mut self.generator);
+                let length = self.generator.output_length(drawn.board.table_bytes());
+                self.join_keys(&keys, length);
+            }
+            Operation::HeldSeed => self.drawn_held_seed(round),
+            Operation::Expand => self.drawn_expand(),
+            Operation::ChooseWidth => self.drawn_choose_width(),
+            Operation::SensorPosition => {
+                let sensor = self.generator.near(0, 71);
+                self.sensor_position(sensor);
+            }
+        }
+    }
+
+    fn drawn_operation(&mut self) -> Operation {
+        let all = WEIGHTS.iter().map(|(_, weight)| weight).sum();
+        let mut left = self.generator.below(all);
+        for (operation, weight) in WEIGHTS {
+            if left < weight {
+                return operation;
+            }
+            left -= weight;
+        }
+        unreachable!("the draw is below the sum of all weights")
+    }
+
+    /// One of the round's keys, with some faults, or none.
+    fn drawn_key(&mut self, round: &Round) -> Vec<u8> {
+        let player = self.generator.below(round.keys.len());
+        faulty_key(round.drawn.board, &round.keys[player], &mut self.generator)
+    }
+
+    fn drawn_open_one(&mut self, round: &Round) {
+        let board = round.drawn.board;
+        let key = self.drawn_key(round);
+        let position = self.generator.near(0, board.positions as u32 - 1);
+        let length = self.generator.output_length(board.value_width);
+        self.open_one(&key, position, length);
+    }
+
+    fn drawn_held_seed(&mut self, round: &Round) {
+        let board = round.drawn.board;
+        let player = self.generator.below(round.keys.len());
+        let key = if self.generator.one_in(4) { self.drawn_key(round) } else { round.keys[player].clone() };
+        let grid_row = self.generator.near(0, board.grid_rows() as u32 - 1);
+        let column = self.generator.near(0, board.columns() as u32 - 1);
+        self.held_seed(&key, grid_row, column);
+    }
+
+    fn drawn_join_shares(&mut self) {
+        let (players, value_bytes) = (self.generator.near(FEWEST_PLAYERS, MOST_PLAYERS), self.generator.near(1, MOST_VALUE_WIDTH));
+        let exact = players.wrapping_mul(value_bytes).min(1_000) as usize;
+        let length = self.generator.pick(&[exact, exact, exact, exact, exact, exact.saturating_sub(1), exact + 1, 0]);
+        let shares = self.generator.bytes(length);
+        let output = self.generator.output_length(value_bytes.min(1_000) as usize);
+        self.join_shares(players, value_bytes, &shares, output);
+    }
+
+    fn drawn_expand(&mut self) {
+        let seed_length = self.generator.pick(&[32, 32, 32, 32, 32, 32, 32, 32, 0, 31, 33, 64]);
+        let seed = self.generator.bytes(seed_length);
+        let most = MOST_ROW_BYTES;
+        let drawn = self.generator.below(most + 1);
+        let short = self.generator.below(300);
+        let length =
+            self.generator.pick(&[short, short, short, drawn, 0, 1, 63, 64, 65, 255, 256, 257, most - 1, most, most + 1, most + 900]);
+        self.expand(&seed, length);
+    }
+
+    /// Positions at random, and about the squares where the width steps.
+    fn drawn_choose_width(&mut self) {
+        let players = self.generator.near(FEWEST_PLAYERS, MOST_PLAYERS);
+        let mut positions = self.generator.near(1, MOST_POSITIONS);
+        if (FEWEST_PLAYERS..=MOST_PLAYERS).contains(&players) && self.generator.one_in(2) {
+            let width = self.generator.within(1, 260);
+            positions = width * width / (1 << (players - 1)) + self.generator.within(0, 1);
+        }
+        self.choose_width(players, positions);
+    }
+}
+
+impl Round {
+    /// All players' shares of a position.
+    fn shares(&self, position: u32) -> Vec<u8> {
+        let mut shares = Vec::new();
+        for key in &self.keys {
+            let mut share = vec![0; self.drawn.board.value_width];
+            open_one(key, position, &mut share).expect("a dealt key");
+            shares.extend(share);
+        }
+        shares
+    }
+}

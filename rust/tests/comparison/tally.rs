@@ -1,0 +1,179 @@
+//! What was met: how many of each refusal each operation gave, and which limits; and what must have been met.
+
+use reference::board::{Board, MOST_GRID_ROWS, MOST_GRID_WIDTH, MOST_POSITIONS, MOST_VALUE_WIDTH};
+
+#[derive(Clone, Copy, Debug, PartialEq, Eq)]
+pub enum Operation {
+    KeyLength,
+    Deal,
+    CheckKey,
+    OpenOne,
+    OpenAll,
+    JoinShares,
+    JoinKeys,
+    HeldSeed,
+    Expand,
+    ChooseWidth,
+    SensorPosition,
+}
+
+/// The operations in their order, with the numbers that document 01 lets each give.
+const OPERATIONS: [(Operation, &str, &[usize]); 11] = [
+    (Operation::KeyLength, "key length", &[1, 2, 3, 4, 5]),
+    (Operation::Deal, "deal", &[1, 2, 3, 4, 5, 6, 7, 8, 9]),
+    (Operation::CheckKey, "check key", &[1, 2, 3, 4, 5, 10, 11, 12, 13]),
+    (Operation::OpenOne, "open one", &[1, 2, 3, 4, 5, 9, 10, 11, 12, 13, 14]),
+    (Operation::OpenAll, "open all", &[1, 2, 3, 4, 5, 9, 10, 11, 12, 13]),
+    (Operation::JoinShares, "join shares", &[1, 4, 7, 9]),
+    (Operation::JoinKeys, "join keys", &[1, 2, 3, 4, 5, 9, 10, 11, 12, 13, 15]),
+    (Operation::HeldSeed, "held seed", &[]),
+    (Operation::Expand, "expand", &[7, 16]),
+    (Operation::ChooseWidth, "choose width", &[1, 2]),
+    (Operation::SensorPosition, "sensor position", &[17]),
+];
+
+/// Limits that calls must have met, those of boards in accepted dealings.
+const LIMITS: [&str; 21] = [
+    "2 players",
+    "3 players",
+    "4 players",
+    "5 players",
+    "6 players",
+    "1 position",
+    "65,536 positions",
+    "grid width 1",
+    "grid width 256",
+    "value of 1 byte",
+    "value of 16 bytes",
+    "1 grid row",
+    "256 grid rows",
+    "short last grid row",
+    "the longest keys",
+    "empty input",
+    "empty output",
+    "output one short",
+    "output exact",
+    "output longer",
+    "empty output accepted",
+];
+
+/// Accepted, and the refusals 1 to 17.
+const NUMBERS: usize = 18;
+
+pub struct Tally {
+    numbers: [[u64; NUMBERS]; OPERATIONS.len()],
+    /// Of Held seed's calls, those that no seed answered.
+    not_held: u64,
+    limits: [u64; LIMITS.len()],
+}
+
+impl Operation {
+    pub fn name(self) -> &'static str {
+        OPERATIONS[self as usize].1
+    }
+}
+
+impl Tally {
+    pub fn new() -> Tally {
+        Tally { numbers: [[0; NUMBERS]; OPERATIONS.len()], not_held: 0, limits: [0; LIMITS.len()] }
+    }
+
+    /// How many calls were made.
+    pub fn calls(&self) -> u64 {
+        self.numbers.iter().flatten().sum()
+    }
+
+    /// A call that gave a number, or 0 where it was accepted.
+    pub fn call(&mut self, operation: Operation, number: u32) {
+        self.numbers[operation as usize][number as usize] += 1;
+    }
+
+    pub fn held_seed(&mut self, held: bool) {
+        self.call(Operation::HeldSeed, 0);
+        self.not_held += u64::from(!held);
+    }
+
+    /// The board of an accepted dealing.
+    pub fn board(&mut self, board: &Board) {
+        let numbers = [board.positions, board.grid_width, board.value_width, board.grid_rows()].map(|number| number as u32);
+        let [positions, grid_width, value_width, grid_rows] = numbers;
+        self.limits[board.players - 2] += 1;
+        self.limit("1 position", positions == 1);
+        self.limit("65,536 positions", positions == MOST_POSITIONS);
+        self.limit("grid width 1", grid_width == 1);
+        self.limit("grid width 256", grid_width == MOST_GRID_WIDTH);
+        self.limit("value of 1 byte", value_width == 1);
+        self.limit("value of 16 bytes", value_width == MOST_VALUE_WIDTH);
+        self.limit("1 grid row", grid_rows == 1);
+        self.limit("256 grid rows", grid_rows == MOST_GRID_ROWS);
+        self.limit("short last grid row", positions % grid_width != 0);
+        self.limit("the longest keys", reference::key::key_bytes(board) == 263_176);
+    }
+
+    pub fn input(&mut self, length: usize) {
+        self.limit("empty input", length == 0);
+    }
+
+    /// An output of a call that writes `exact` bytes where its output has room, and that gave `number`.
+    pub fn output(&mut self, length: usize, exact: usize, number: u32) {
+        self.limit("empty output", length == 0);
+        self.limit("output one short", length + 1 == exact && number == 9);
+        self.limit("output exact", length == exact && number == 0);
+        self.limit("output longer", length > exact && number == 0);
+        self.limit("empty output accepted", length == 0 && number == 0);
+    }
+
+    fn limit(&mut self, limit: &str, met: bool) {
+        let place = LIMITS.iter().position(|other| *other == limit).expect("a limit that is listed");
+        self.limits[place] += u64::from(met);
+    }
+
+    /// Prints what was met.
+    pub fn print(&self) {
+        for (operation, name, refusals) in OPERATIONS {
+            let numbers = &self.numbers[operation as usize];
+            let calls: u64 = numbers.iter().sum();
+            let mut line = format!("{name}: {calls} calls");
+            if operation == Operation::HeldSeed {
+                line += &format!(", {} held, {} not held", numbers[0] - self.not_held, self.not_held);
+            } else {
+                line += &format!(", {} accepted, refused", numbers[0]);
+            }
+            for &number in refusals {
+                line += &format!(" {number}: {}", numbers[number]);
+            }
+            println!("{line}");
+        }
+        let each: Vec<String> = (1..NUMBERS).map(|number| format!("{number}: {}", self.refused(number))).collect();
+        println!("all operations: {} calls, refused {}", self.calls(), each.join(" "));
+        let limits: Vec<String> = LIMITS.iter().zip(self.limits).map(|(limit, met)| format!("{limit}: {met}")).collect();
+        println!("limits met: {}", limits.join(", "));
+    }
+
+    fn refused(&self, number: usize) -> u64 {
+        self.numbers.iter().map(|numbers| numbers[number]).sum()
+    }
+
+    /// What should have been met and was not, and the other way about.
+    pub fn faults(&self) -> Vec<String> {
+        let mut faults = Vec::new();
+        for (operation, name, refusals) in OPERATIONS {
+            for (number, &calls) in self.numbers[operation as usize].iter().enumerate() {
+                let can = number == 0 || refusals.contains(&number);
+                if can != (calls > 0) {
+                    faults.push(format!("{name} gave {number} {calls} times"));
+                }
+            }
+        }
+        let held = self.numbers[Operation::HeldSeed as usize][0] - self.not_held;
+        if held == 0 || self.not_held == 0 {
+            faults.push(format!("held seed gave a seed {held} times, and none {} times", self.not_held));
+        }
+        for (limit, met) in LIMITS.iter().zip(self.limits) {
+            if met == 0 {
+                faults.push(format!("never met: {limit}"));
+            }
+        }
+        faults
+    }
+}

@@ -1,0 +1,206 @@
+/* Accepted calls: document 01's printed deal and RFC 8439's key stream byte by byte, and dealings of many boards, dealt, checked, opened and joined. */
+#include "common.h"
+#include <stdio.h>
+#include <string.h>
+
+enum { SPARE = 5, FILL = 0xC3 };   /* outputs are lent with some bytes more than are written, to see that those stay */
+
+/* Document 01's printed deal, with seeds 0x00 to 0x7F and words 0xF0 to 0xF3: the bytes on the dealing program's stored input. */
+static const uint8_t printed_arrays[4] = {0x00, 0x03, 0x01, 0x02};
+static const uint8_t printed_words[4] = {0xF0, 0xF1, 0xF2, 0xF3};
+static const uint8_t printed_last_word[4] = {0x0C, 0xD2, 0x3A, 0xD3};   /* as the second implementation gives it */
+
+/* A key of the printed deal: player, its mark bytes, and the first byte of the two seeds that it holds (each counts on from there). */
+static void printed_key(uint8_t player, const uint8_t marks[2], const uint8_t seeds[2], uint8_t key[79])
+{
+    const uint8_t header[5] = {2, player, 6, 4, 1};
+    memcpy(key, header, 5);
+    for (int row = 0; row < 2; row++) {
+        uint8_t *part = key + 5 + 33 * row;
+        part[0] = marks[row];
+        for (int i = 0; i < 32; i++)
+            part[1 + i] = (uint8_t)(seeds[row] + i);
+    }
+    memcpy(key + 71, printed_words, 4);
+    memcpy(key + 75, printed_last_word, 4);
+}
+
+static void test_printed_deal(void)
+{
+    static const uint8_t marks[2][2] = {{0x02, 0x01}, {0x02, 0x02}}, held[2][2] = {{0x20, 0x40}, {0x20, 0x60}};
+    static const uint8_t joined[6] = {0, 0, 0, 0, 0xA5, 0};
+    const uint8_t value = 0xA5;
+    uint8_t seeds[128], wanted[158], keys[158 + SPARE], table[6 + SPARE];
+    for (int i = 0; i < 128; i++)
+        seeds[i] = (uint8_t)i;
+    for (uint8_t player = 0; player < 2; player++)
+        printed_key(player, marks[player], held[player], wanted + 79 * player);
+    memset(keys, FILL, sizeof keys);
+    CHECK(nsg_deal(2, 6, 4, 1, 4, &value, 1, printed_arrays, 4, seeds, 128, printed_words, 4, keys, sizeof keys) == NSG_ACCEPTED);
+    CHECK(memcmp(keys, wanted, 158) == 0);
+    CHECK(keys[158] == FILL && keys[158 + SPARE - 1] == FILL);
+    memset(table, FILL, sizeof table);
+    CHECK(nsg_join_keys(keys, 158, table, sizeof table) == NSG_ACCEPTED);
+    CHECK(memcmp(table, joined, 6) == 0);
+    CHECK(table[6] == FILL && table[6 + SPARE - 1] == FILL);
+    CHECK(nsg_held_seed(keys, 79, 0, 0) == 0);
+    CHECK(nsg_held_seed(keys, 79, 0, 1) == 6);
+    CHECK(nsg_held_seed(keys, 79, 1, 0) == 39);
+    CHECK(nsg_held_seed(keys, 79, 1, 1) == 0);
+}
+
+/* RFC 8439, A.1 #1 and #2: the key stream of the seed of zeros, its first two blocks. */
+static void test_expand(void)
+{
+    static const uint8_t stream[128] = {
+        0x76, 0xb8, 0xe0, 0xad, 0xa0, 0xf1, 0x3d, 0x90, 0x40, 0x5d, 0x6a, 0xe5, 0x53, 0x86, 0xbd, 0x28, 0xbd, 0xd2, 0x19, 0xb8, 0xa0, 0x8d,
+        0xed, 0x1a, 0xa8, 0x36, 0xef, 0xcc, 0x8b, 0x77, 0x0d, 0xc7, 0xda, 0x41, 0x59, 0x7c, 0x51, 0x57, 0x48, 0x8d, 0x77, 0x24, 0xe0, 0x3f,
+        0xb8, 0xd8, 0x4a, 0x37, 0x6a, 0x43, 0xb8, 0xf4, 0x15, 0x18, 0xa1, 0x1c, 0xc3, 0x87, 0xb6, 0x69, 0xb2, 0xee, 0x65, 0x86, 0x9f, 0x07,
+        0xe7, 0xbe, 0x55, 0x51, 0x38, 0x7a, 0x98, 0xba, 0x97, 0x7c, 0x73, 0x2d, 0x08, 0x0d, 0xcb, 0x0f, 0x29, 0xa0, 0x48, 0xe3, 0x65, 0x69,
+        0x12, 0xc6, 0x53, 0x3e, 0x32, 0xee, 0x7a, 0xed, 0x29, 0xb7, 0x21, 0x76, 0x9c, 0xe6, 0x4e, 0x43, 0xd5, 0x71, 0x33, 0xb0, 0x74, 0xd8,
+        0x39, 0xd5, 0x31, 0xed, 0x1f, 0x28, 0x51, 0x0a, 0xfb, 0x45, 0xac, 0xe1, 0x0a, 0x1f, 0x4b, 0x79, 0x4d, 0x6f};
+    struct lent seed = lend_filled(0, NSG_SEED_BYTES), most = lend_filled(FILL, NSG_MOST_EXPANDED_BYTES);
+    CHECK(nsg_expand(seed.bytes, 32, most.bytes, most.length) == NSG_ACCEPTED);
+    CHECK(memcmp(most.bytes, stream, 128) == 0);
+    for (uint64_t length = 0; length <= most.length; length = length < 200 ? length + 1 : length + 487) {
+        struct lent out = lend_filled(FILL, length);
+        CHECK(nsg_expand(seed.bytes, 32, out.bytes, out.length) == NSG_ACCEPTED);
+        CHECK(memcmp(out.bytes, most.bytes, (size_t)length) == 0);
+        give_back(&out);
+    }
+    CHECK(untouched(&seed));
+    give_back(&seed);
+    give_back(&most);
+}
+
+/* Key lengths by document 01's formula, for every width of a board. */
+static void test_key_lengths(uint32_t players, uint32_t positions)
+{
+    const uint32_t columns = NSG_COLUMNS(players), value_bytes = 1 + positions % NSG_MOST_VALUE_BYTES;
+    for (uint32_t width = 1; width <= NSG_MOST_WIDTH; width++) {
+        uint32_t header = 5 + (positions >= 128) + (positions >= 16384) + (width >= 128), rows = NSG_GRID_ROWS(positions, width);
+        uint32_t number = 0, answer = nsg_key_length(players, positions, width, value_bytes, &number);
+        CHECK(answer == (rows > NSG_MOST_GRID_ROWS ? NSG_REFUSED_GRID_ROWS : NSG_ACCEPTED));
+        CHECK(number == (answer == NSG_ACCEPTED ? header + rows * ((columns + 7) / 8 + 16 * columns) + columns * width * value_bytes : 0));
+    }
+}
+
+/* Document 01's lines on widths, lengths and sensors, and what must hold of all of them. */
+static void test_numbers(void)
+{
+    uint32_t number = 0;
+    CHECK(nsg_choose_width(2, 64, &number) == NSG_ACCEPTED && number == 12);
+    CHECK(nsg_choose_width(4, 72, &number) == NSG_ACCEPTED && number == 24);
+    CHECK(nsg_choose_width(6, 65536, &number) == NSG_ACCEPTED && number == 256);
+    for (uint32_t players = NSG_LEAST_PLAYERS; players <= NSG_MOST_PLAYERS; players++)
+        for (uint32_t positions = 1; positions <= NSG_MOST_POSITIONS; positions = positions < 300 ? positions + 1 : positions * 3 / 2) {
+            uint32_t least = 1;
+            while (least < NSG_MOST_WIDTH && least * least < positions * NSG_COLUMNS(players))
+                least++;
+            CHECK(nsg_choose_width(players, positions, &number) == NSG_ACCEPTED && number == least);
+        }
+    CHECK(nsg_key_length(4, 72, 24, 1, &number) == NSG_ACCEPTED && number == 584);
+    for (uint32_t players = NSG_LEAST_PLAYERS; players <= NSG_MOST_PLAYERS; players++)
+        for (uint32_t positions = 1; positions <= NSG_MOST_POSITIONS; positions = positions < 300 ? positions + 1 : positions * 5 / 4)
+            test_key_lengths(players, positions);
+    CHECK(nsg_key_length(6, 65536, 256, 16, &number) == NSG_ACCEPTED && number == NSG_MOST_KEY_BYTES);
+    CHECK(NSG_MOST_KEYS_BYTES == NSG_MOST_PLAYERS * NSG_MOST_KEY_BYTES);
+    CHECK(NSG_MOST_TABLE_BYTES == NSG_TABLE_BYTES(NSG_MOST_POSITIONS, NSG_MOST_VALUE_BYTES));
+    CHECK(NSG_MOST_COLUMNS == NSG_COLUMNS(NSG_MOST_PLAYERS));
+    CHECK(nsg_sensor_position(8, &number) == NSG_ACCEPTED && number == 15);
+    CHECK(nsg_sensor_position(71, &number) == NSG_ACCEPTED && number == 71);
+    for (uint32_t sensor = 0; sensor < NSG_SENSORS; sensor++) {
+        uint32_t line = sensor / 8, along = sensor % 8;
+        CHECK(nsg_sensor_position(sensor, &number) == NSG_ACCEPTED);
+        CHECK(number == 8 * line + (line % 2 == 0 ? along : 7 - along));
+    }
+}
+
+/* A key's numbers, and where its seeds are: those of the columns that the player marks, as they were lent to Deal. */
+static void test_key(const struct draw *draw, const struct lent *key, uint32_t player)
+{
+    const struct board board = draw->board;
+    const uint32_t columns = NSG_COLUMNS(board.players), grid_rows = NSG_GRID_ROWS(board.positions, board.width);
+    const uint32_t step = grid_rows > 16 ? 37 : 1;
+    uint32_t header[NSG_HEADER_NUMBERS + 1] = {0, 0, 0, 0, 0, 77};
+    CHECK(nsg_check_key(key->bytes, key->length, header) == NSG_ACCEPTED);
+    CHECK(header[0] == board.players && header[1] == player && header[2] == board.positions && header[3] == board.width);
+    CHECK(header[4] == board.value_bytes && header[5] == 77);
+    for (uint32_t row = 0; row < grid_rows; row += step)
+        for (uint32_t column = 0; column < columns; column++) {
+            uint32_t place = row * columns + column;
+            int marked = draw->arrays.bytes[place] >> player & 1;
+            uint64_t held = nsg_held_seed(key->bytes, key->length, row, column);
+            CHECK((held != 0) == marked);
+            CHECK(held + 32 <= key->length);
+            CHECK(!marked || memcmp(key->bytes + held, draw->seeds.bytes + 32 * place, 32) == 0);
+        }
+    CHECK(nsg_held_seed(key->bytes, key->length, grid_rows, 0) == 0);
+    CHECK(nsg_held_seed(key->bytes, key->length, 0, columns) == 0);
+    CHECK(nsg_held_seed(key->bytes, key->length, UINT32_MAX, UINT32_MAX) == 0);
+    CHECK(nsg_held_seed(key->bytes, key->length - 1, 0, 0) == 0 && nsg_held_seed(key->bytes, key->length - 1, 0, 1) == 0);
+    CHECK(untouched(key));
+}
+
+/* One dealing: each key by itself, its table, squares opened alone, the shares joined, and the keys joined. */
+static void test_dealing(struct board board, uint32_t point)
+{
+    struct draw draw = draw_dealing(board, point);
+    struct lent keys = dealt_keys(&draw), tables[NSG_MOST_PLAYERS];
+    const uint32_t length = key_length(board), width = board.value_bytes, table = NSG_TABLE_BYTES(board.positions, width);
+    const uint32_t step = board.positions > 300 ? board.positions / 97 : 1;
+    CHECK(untouched(&draw.value) && untouched(&draw.arrays) && untouched(&draw.seeds) && untouched(&draw.words));
+    for (uint32_t player = 0; player < board.players; player++) {
+        struct lent key = lend(keys.bytes + player * length, length);
+        test_key(&draw, &key, player);
+        tables[player] = lend_filled(FILL, table + SPARE);
+        CHECK(nsg_open_all(key.bytes, key.length, tables[player].bytes, tables[player].length) == NSG_ACCEPTED);
+        CHECK(untouched_past(&tables[player], table));
+        for (uint32_t position = 0; position < board.positions; position += step) {
+            struct lent share = lend_filled(FILL, width + position % 2);
+            CHECK(nsg_open_one(key.bytes, key.length, position, share.bytes, share.length) == NSG_ACCEPTED);
+            CHECK(memcmp(share.bytes, tables[player].bytes + position * width, width) == 0);
+            CHECK(untouched_past(&share, width));
+            give_back(&share);
+        }
+        CHECK(untouched(&key));
+        give_back(&key);
+    }
+    struct lent joined = lend_filled(FILL, table + SPARE);
+    CHECK(nsg_join_keys(keys.bytes, keys.length, joined.bytes, joined.length) == NSG_ACCEPTED);
+    CHECK(untouched(&keys) && untouched_past(&joined, table));
+    for (uint32_t position = 0; position < board.positions; position++) {
+        static const uint8_t zeros[NSG_MOST_VALUE_BYTES];
+        CHECK(memcmp(joined.bytes + position * width, position == point ? draw.value.bytes : zeros, width) == 0);
+        if (position % step != 0)
+            continue;
+        struct lent shares = lend_filled(0, (uint64_t)board.players * width), out = lend_filled(FILL, width + position % 2);
+        for (uint32_t player = 0; player < board.players; player++)
+            memcpy(shares.bytes + player * width, tables[player].bytes + position * width, width);
+        CHECK(nsg_join_shares(board.players, width, shares.bytes, shares.length, out.bytes, out.length) == NSG_ACCEPTED);
+        CHECK(memcmp(out.bytes, joined.bytes + position * width, width) == 0 && untouched_past(&out, width));
+        give_back(&shares);
+        give_back(&out);
+    }
+    for (uint32_t player = 0; player < board.players; player++)
+        give_back(&tables[player]);
+    give_back(&joined);
+    give_back(&keys);
+    give_back_draw(&draw);
+}
+
+void test_operations(void)
+{
+    static const struct board boards[] = {{2, 6, 4, 1}, {2, 1, 1, 1}, {2, 1, 256, 16}, {2, 64, 12, 1}, {3, 100, 17, 16}, {3, 130, 128, 5},
+                                          {4, 72, 24, 1}, {4, 256, 1, 16}, {5, 300, 34, 3}, {6, 72, 48, 2}, {6, 4000, 255, 1},
+                                          {2, 65536, 256, 16}, {6, 65536, 256, 1}};
+    test_printed_deal();
+    test_expand();
+    test_numbers();
+    for (unsigned i = 0; i < sizeof boards / sizeof boards[0]; i++) {
+        test_dealing(boards[i], 0);
+        test_dealing(boards[i], boards[i].positions - 1);
+        test_dealing(boards[i], next_below(boards[i].positions));
+    }
+    printf("operations: %u boards\n", (unsigned)(sizeof boards / sizeof boards[0]));
+}

@@ -1,0 +1,341 @@
+/* Every refusal of every function: the number, every lent byte as it was, and the first number where several fit. Each function's numbers
+   are listed, and one that was never met fails. */
+#include "common.h"
+#include <stdio.h>
+#include <string.h>
+
+enum function { KEY_LENGTH, DEAL, CHECK_KEY, OPEN_ONE, OPEN_ALL, JOIN_SHARES, JOIN_KEYS, EXPAND, CHOOSE_WIDTH, SENSOR_POSITION, FUNCTIONS };
+enum { NUMBERS = 18, FILL = 0x5C };
+
+static const char *const names[FUNCTIONS] = {"nsg_key_length", "nsg_deal", "nsg_check_key", "nsg_open_one", "nsg_open_all",
+                                             "nsg_join_shares", "nsg_join_keys", "nsg_expand", "nsg_choose_width", "nsg_sensor_position"};
+
+/* Document 01: which numbers each operation gives. A row ends with 0. */
+static const uint8_t given[FUNCTIONS][NUMBERS] = {
+    {1, 2, 3, 4, 5},
+    {1, 2, 3, 4, 5, 6, 7, 8, 9},
+    {1, 2, 3, 4, 5, 10, 11, 12, 13},
+    {1, 2, 3, 4, 5, 9, 10, 11, 12, 13, 14},
+    {1, 2, 3, 4, 5, 9, 10, 11, 12, 13},
+    {1, 4, 7, 9},
+    {1, 2, 3, 4, 5, 9, 10, 11, 12, 13, 15},
+    {7, 16},
+    {1, 2},
+    {17},
+};
+
+static unsigned met[FUNCTIONS][NUMBERS];
+
+static void expect(enum function function, uint32_t answer, uint32_t wanted)
+{
+    CHECK(answer == wanted);
+    if (answer != wanted)
+        printf("  %s gives %u, not %u\n", names[function], (unsigned)answer, (unsigned)wanted);
+    if (answer < NUMBERS)
+        met[function][answer]++;
+}
+
+/* Numbers outside of their ranges, for the four numbers of a board. */
+static void refuse_key_length(uint32_t players, uint32_t positions, uint32_t width, uint32_t value_bytes, uint32_t wanted)
+{
+    uint32_t length = 0xDEADBEEF;
+    expect(KEY_LENGTH, nsg_key_length(players, positions, width, value_bytes, &length), wanted);
+    CHECK(length == 0xDEADBEEF);
+}
+
+static void test_numbers_refused(void)
+{
+    static const uint32_t players[] = {0, 1, 7, 256 + 2, UINT32_MAX}, positions[] = {0, 65537, UINT32_MAX}, widths[] = {0, 257, UINT32_MAX};
+    static const uint32_t values[] = {0, 17, 256 + 1, UINT32_MAX}, sensors[] = {72, 73, 256, UINT32_MAX};
+    uint32_t number = 0xDEADBEEF;
+    for (int i = 0; i < 5; i++) {
+        refuse_key_length(players[i], 72, 24, 1, NSG_REFUSED_PLAYERS);
+        refuse_key_length(players[i], 0, 0, 0, NSG_REFUSED_PLAYERS);
+        expect(CHOOSE_WIDTH, nsg_choose_width(players[i], 72, &number), NSG_REFUSED_PLAYERS);
+        expect(CHOOSE_WIDTH, nsg_choose_width(players[i], 0, &number), NSG_REFUSED_PLAYERS);
+    }
+    for (int i = 0; i < 3; i++) {
+        refuse_key_length(4, positions[i], 24, 1, NSG_REFUSED_POSITIONS);
+        refuse_key_length(4, positions[i], 0, 0, NSG_REFUSED_POSITIONS);
+        refuse_key_length(4, 72, widths[i], 1, NSG_REFUSED_WIDTH);
+        refuse_key_length(4, 72, widths[i], 0, NSG_REFUSED_WIDTH);
+        expect(CHOOSE_WIDTH, nsg_choose_width(4, positions[i], &number), NSG_REFUSED_POSITIONS);
+    }
+    for (int i = 0; i < 4; i++) {
+        refuse_key_length(4, 72, 24, values[i], NSG_REFUSED_VALUE_BYTES);
+        refuse_key_length(4, 65536, 255, values[i], NSG_REFUSED_VALUE_BYTES);
+        expect(SENSOR_POSITION, nsg_sensor_position(sensors[i], &number), NSG_REFUSED_SENSOR);
+    }
+    refuse_key_length(4, 65536, 255, 1, NSG_REFUSED_GRID_ROWS);
+    refuse_key_length(4, 257, 1, 1, NSG_REFUSED_GRID_ROWS);
+    CHECK(number == 0xDEADBEEF);
+}
+
+/* A call of Deal that is refused, with all that was lent to it as it was. */
+static void refuse_deal(const struct draw *draw, uint64_t room, uint32_t wanted)
+{
+    struct lent keys = lend_filled(FILL, room);
+    expect(DEAL, deal(draw, &keys), wanted);
+    CHECK(untouched(&keys) && untouched(&draw->value) && untouched(&draw->arrays) && untouched(&draw->seeds) && untouched(&draw->words));
+    give_back(&keys);
+}
+
+/* Deal with one input a byte shorter or longer than it should be. */
+static void refuse_deal_lengths(struct draw *draw, uint64_t room)
+{
+    struct lent *inputs[4] = {&draw->value, &draw->arrays, &draw->seeds, &draw->words};
+    for (int i = 0; i < 4; i++) {
+        struct lent right = *inputs[i];
+        for (int more = -1; more <= 1; more += 2) {
+            *inputs[i] = lend_filled(FILL, right.length + (uint64_t)more);
+            refuse_deal(draw, room, NSG_REFUSED_LENT);
+            give_back(inputs[i]);
+        }
+        *inputs[i] = right;
+    }
+}
+
+/* Deal with one array spoiled at the byte `place`. */
+static void refuse_deal_array(struct draw *draw, uint32_t place, uint8_t column, uint64_t room)
+{
+    uint8_t right = draw->arrays.bytes[place];
+    draw->arrays.bytes[place] = draw->arrays.before[place] = column;
+    refuse_deal(draw, room, NSG_REFUSED_ARRAYS);
+    draw->arrays.bytes[place] = draw->arrays.before[place] = right;
+}
+
+/* The calls in which everything from number `first` on is wrong: that number alone is given. */
+static void refuse_deal_order(uint32_t first)
+{
+    struct draw draw = draw_dealing((struct board){3, 10, 4, 2}, 9);
+    uint64_t room = 3 * key_length(draw.board) - 1;
+    if (first <= 8)
+        draw.arrays.bytes[0] = draw.arrays.before[0] = 0xFF;
+    if (first <= 7) {
+        give_back(&draw.value);
+        draw.value = lend_filled(FILL, 0);
+    }
+    if (first <= 6)
+        draw.point = UINT32_MAX;
+    if (first == 5)
+        draw.board.positions = 2000;
+    if (first <= 4)
+        draw.board.value_bytes = 0;
+    if (first <= 3)
+        draw.board.width = 0;
+    if (first <= 2)
+        draw.board.positions = 0;
+    if (first == 1)
+        draw.board.players = 7;
+    refuse_deal(&draw, room, first);
+    give_back_draw(&draw);
+}
+
+static void test_deal_refused(void)
+{
+    struct draw draw = draw_dealing((struct board){4, 72, 24, 1}, 30);
+    const uint64_t room = 4 * key_length(draw.board);
+    for (uint32_t first = 1; first <= 9; first++)
+        refuse_deal_order(first);
+    draw.point = 72;
+    refuse_deal(&draw, room, NSG_REFUSED_POINT);
+    draw.point = 30;
+    refuse_deal_lengths(&draw, room);
+    refuse_deal_array(&draw, 3, (uint8_t)(draw.arrays.bytes[3] | 0x30), room);   /* bits of no player, parity right */
+    refuse_deal_array(&draw, 0, (uint8_t)(draw.arrays.bytes[0] ^ 1), room);      /* the wrong parity */
+    refuse_deal_array(&draw, 23, draw.arrays.bytes[16], room);                   /* a column twice: parity right */
+    draw.point = 60;                                                             /* an odd array in a grid row that is not the point's */
+    refuse_deal(&draw, room, NSG_REFUSED_ARRAYS);
+    draw.point = 30;
+    refuse_deal(&draw, room - 1, NSG_REFUSED_ROOM);
+    refuse_deal(&draw, 0, NSG_REFUSED_ROOM);
+    give_back_draw(&draw);
+}
+
+/* How a key is damaged: its length, a place, and the bytes written there; and the number that Check key gives. */
+struct damage {
+    uint32_t wanted;
+    uint32_t place, count;
+    uint8_t bytes[9];
+};
+
+/* Of a key of document 01's printed board (2 players, 6 squares, width 4, 1 byte; 79 bytes). All keep the length. */
+static const struct damage damages[] = {
+    {10, 0, 2, {0x82, 0x00}},                                     /* not shortest */
+    {10, 1, 3, {0x80, 0x80, 0x80}},                               /* over three groups */
+    {10, 4, 2, {0x81, 0x00}},                                     /* the last of the five */
+    {10, 0, 6, {0x07, 0x09, 0x00, 0x00, 0x80, 0x00}},             /* all are read before 1 to 5 */
+    {1, 0, 1, {0x01}}, {1, 0, 1, {0x00}}, {1, 0, 5, {0x07, 0x09, 0x00, 0x00, 0x00}},
+    {2, 2, 1, {0x00}}, {2, 2, 3, {0x81, 0x80, 0x04}}, {2, 1, 4, {0x09, 0x00, 0x00, 0x00}},
+    {3, 3, 1, {0x00}}, {3, 3, 2, {0x81, 0x02}}, {3, 1, 4, {0x09, 0x06, 0x00, 0x00}},
+    {4, 4, 1, {0x00}}, {4, 4, 1, {0x11}}, {4, 1, 4, {0x09, 0x7F, 0x01, 0x11}},
+    {5, 2, 6, {0x80, 0x80, 0x04, 0xFF, 0x01, 0x01}}, {5, 1, 8, {0x09, 0x81, 0x02, 0x01, 0x01, 0x01}},
+    {11, 1, 1, {0x02}}, {11, 1, 1, {0x7F}},
+    {13, 5, 1, {0x00}}, {13, 5, 1, {0x03}}, {13, 38, 1, {0x00}}, {13, 38, 1, {0x05}}, {13, 38, 1, {0x41}},   /* marks; spare bits */
+};
+enum { DAMAGES = sizeof damages / sizeof damages[0], KEY = 79 };
+
+static struct lent damaged(const uint8_t *bytes, uint64_t length, uint64_t from, const struct damage *damage)
+{
+    struct lent lent = lend(bytes, length);
+    memcpy(lent.bytes + from + damage->place, damage->bytes, damage->count);
+    memcpy(lent.before, lent.bytes, (size_t)length);
+    return lent;
+}
+
+/* A refused key, in the four calls that take one. Outputs have no room, and the position is none: those come later. */
+static void refuse_key(const struct lent *key, uint32_t wanted)
+{
+    static const uint32_t untold[NSG_HEADER_NUMBERS] = {1000, 1001, 1002, 1003, 1004};
+    uint32_t header[NSG_HEADER_NUMBERS];
+    for (uint64_t room = 0; room <= 6; room += 6) {
+        struct lent out = lend_filled(FILL, room);
+        expect(OPEN_ONE, nsg_open_one(key->bytes, key->length, room == 0 ? 6 : 0, out.bytes, room), wanted);
+        expect(OPEN_ALL, nsg_open_all(key->bytes, key->length, out.bytes, room), wanted);
+        CHECK(untouched(&out));
+        give_back(&out);
+    }
+    memcpy(header, untold, sizeof header);
+    expect(CHECK_KEY, nsg_check_key(key->bytes, key->length, header), wanted);
+    CHECK(memcmp(header, untold, sizeof header) == 0);
+    CHECK(nsg_held_seed(key->bytes, key->length, 0, 0) == 0 && nsg_held_seed(key->bytes, key->length, 0, 1) == 0);
+    CHECK(untouched(key));
+}
+
+static void refuse_join(const struct lent *keys, uint64_t room, uint32_t wanted)
+{
+    struct lent out = lend_filled(FILL, room);
+    expect(JOIN_KEYS, nsg_join_keys(keys->bytes, keys->length, out.bytes, out.length), wanted);
+    CHECK(untouched(keys) && untouched(&out));
+    give_back(&out);
+}
+
+/* The first key's own number, before 12 and 9; the 13 of marks comes after 12. */
+static void refuse_join_first(const struct lent *keys, const struct damage *damage)
+{
+    struct lent spoiled = damaged(keys->bytes, keys->length, 0, damage);
+    refuse_join(&spoiled, 6, damage->wanted);
+    refuse_join(&spoiled, 0, damage->wanted);
+    give_back(&spoiled);
+    struct lent cut = damaged(keys->bytes, keys->length - 1, 0, damage);
+    refuse_join(&cut, 6, damage->wanted == 13 ? 12 : damage->wanted);
+    give_back(&cut);
+}
+
+static void refuse_join_second(const struct lent *keys, const struct damage *damage)
+{
+    struct lent spoiled = damaged(keys->bytes, keys->length, KEY, damage);
+    refuse_join(&spoiled, 6, damage->wanted);
+    refuse_join(&spoiled, 0, damage->wanted);
+    give_back(&spoiled);
+}
+
+/* 15: a later key of another board with the same first K bytes to read, or of another player than its place. */
+static void test_places_refused(const struct lent *keys)
+{
+    static const struct damage others[] = {{15, 0, 1, {0x03}}, {15, 2, 1, {0x05}}, {15, 3, 1, {0x03}}, {15, 4, 1, {0x02}}, {15, 1, 1, {0x00}},
+                                           {15, 1, 8, {0x00, 0x06, 0x04, 0x01, 0x00}} /* before its 13 */};
+    for (unsigned i = 0; i < sizeof others / sizeof others[0]; i++)
+        refuse_join_second(keys, &others[i]);
+    struct lent swapped = lend(keys->bytes, keys->length);
+    memcpy(swapped.bytes, keys->bytes + KEY, KEY);
+    memcpy(swapped.bytes + KEY, keys->bytes, KEY);
+    memcpy(swapped.before, swapped.bytes, 2 * KEY);
+    refuse_join(&swapped, 6, NSG_REFUSED_PLACE);
+    give_back(&swapped);
+}
+
+/* Keys cut at every length, and one byte too long. */
+static void test_lengths_refused(const struct lent *keys)
+{
+    for (uint64_t length = 0; length <= 2 * KEY + 1; length++) {
+        struct lent cut = lend_filled(0, length);
+        memcpy(cut.bytes, keys->bytes, (size_t)(length < 2 * KEY ? length : 2 * KEY));
+        memcpy(cut.before, cut.bytes, (size_t)length);
+        if (length != KEY)
+            refuse_key(&cut, length < 5 ? NSG_REFUSED_NUMBER : NSG_REFUSED_LENGTH);
+        if (length != 2 * KEY)
+            refuse_join(&cut, 6, length < 5 ? NSG_REFUSED_NUMBER : NSG_REFUSED_LENGTH);
+        give_back(&cut);
+    }
+}
+
+static void test_keys_refused(void)
+{
+    struct draw draw = draw_dealing((struct board){2, 6, 4, 1}, 4);
+    struct lent keys = dealt_keys(&draw), key = lend(keys.bytes, KEY), out = lend_filled(FILL, 6);
+    CHECK(keys.length == 2 * KEY);
+    for (int i = 0; i < DAMAGES; i++) {
+        struct lent spoiled = damaged(keys.bytes, KEY, 0, &damages[i]);
+        refuse_key(&spoiled, damages[i].wanted);
+        give_back(&spoiled);
+        refuse_join_first(&keys, &damages[i]);
+        refuse_join_second(&keys, &damages[i]);
+    }
+    test_lengths_refused(&keys);
+    test_places_refused(&keys);
+    refuse_join(&keys, 5, NSG_REFUSED_ROOM);
+    refuse_join(&keys, 0, NSG_REFUSED_ROOM);
+    expect(OPEN_ONE, nsg_open_one(key.bytes, KEY, 6, out.bytes, 6), NSG_REFUSED_POSITION);
+    expect(OPEN_ONE, nsg_open_one(key.bytes, KEY, UINT32_MAX, out.bytes, 0), NSG_REFUSED_POSITION);
+    expect(OPEN_ONE, nsg_open_one(key.bytes, KEY, 5, out.bytes, 0), NSG_REFUSED_ROOM);
+    expect(OPEN_ALL, nsg_open_all(key.bytes, KEY, out.bytes, 5), NSG_REFUSED_ROOM);
+    expect(OPEN_ALL, nsg_open_all(key.bytes, KEY, out.bytes, 0), NSG_REFUSED_ROOM);
+    CHECK(untouched(&out) && untouched(&key));
+    give_back(&out);
+    give_back(&key);
+    give_back(&keys);
+    give_back_draw(&draw);
+}
+
+static void refuse_shares(uint32_t players, uint32_t value_bytes, uint64_t length, uint64_t room, uint32_t wanted)
+{
+    struct lent shares = lend_filled(0x33, length), out = lend_filled(FILL, room);
+    expect(JOIN_SHARES, nsg_join_shares(players, value_bytes, shares.bytes, shares.length, out.bytes, out.length), wanted);
+    CHECK(untouched(&shares) && untouched(&out));
+    give_back(&shares);
+    give_back(&out);
+}
+
+static void refuse_expand(uint64_t length, uint64_t room, uint32_t wanted)
+{
+    struct lent seed = lend_filled(0x33, length), out = lend_filled(FILL, room);
+    expect(EXPAND, nsg_expand(seed.bytes, seed.length, out.bytes, out.length), wanted);
+    CHECK(untouched(&seed) && untouched(&out));
+    give_back(&seed);
+    give_back(&out);
+}
+
+static void test_shares_and_seeds_refused(void)
+{
+    refuse_shares(1, 0, 3, 0, NSG_REFUSED_PLAYERS);
+    refuse_shares(7, 2, 14, 2, NSG_REFUSED_PLAYERS);
+    refuse_shares(3, 0, 3, 0, NSG_REFUSED_VALUE_BYTES);
+    refuse_shares(3, 17, 51, 17, NSG_REFUSED_VALUE_BYTES);
+    refuse_shares(3, 2, 5, 0, NSG_REFUSED_LENT);
+    refuse_shares(3, 2, 7, 2, NSG_REFUSED_LENT);
+    refuse_shares(3, 2, 0, 2, NSG_REFUSED_LENT);
+    refuse_shares(3, 2, 6, 1, NSG_REFUSED_ROOM);
+    refuse_shares(6, 16, 96, 0, NSG_REFUSED_ROOM);
+    refuse_expand(0, 4097, NSG_REFUSED_LENT);
+    refuse_expand(31, 64, NSG_REFUSED_LENT);
+    refuse_expand(33, 0, NSG_REFUSED_LENT);
+    refuse_expand(32, 4097, NSG_REFUSED_EXPANSION);
+    refuse_expand(32, 65536, NSG_REFUSED_EXPANSION);
+}
+
+void test_refusals(void)
+{
+    test_numbers_refused();
+    test_deal_refused();
+    test_keys_refused();
+    test_shares_and_seeds_refused();
+    for (int f = 0; f < FUNCTIONS; f++) {
+        printf("refusals: %s", names[f]);
+        for (const uint8_t *number = given[f]; *number != 0; number++) {
+            printf(" %u:%u", *number, met[f][*number]);
+            CHECK(met[f][*number] != 0);
+        }
+        printf("\n");
+    }
+}

@@ -1,0 +1,91 @@
+/* Several threads at once, on the same inputs: each gets the bytes that one thread alone gets. */
+#define _POSIX_C_SOURCE 200112L
+#include "common.h"
+#include <pthread.h>
+#include <stdio.h>
+#include <string.h>
+
+enum { THREADS = 8, ROUNDS = 12, BOARDS = 4 };
+
+static struct draw draws[BOARDS];
+static struct lent keys[BOARDS], tables[BOARDS], joined[BOARDS];   /* as one thread alone got them */
+static pthread_barrier_t start;
+
+struct work {
+    pthread_t thread;
+    unsigned number, differing;
+};
+
+/* Player 0's squares opened alone: how many answers and shares differ. */
+static unsigned squares_differing(unsigned i, uint64_t length)
+{
+    const struct board board = draws[i].board;
+    unsigned differing = 0;
+    for (uint32_t position = 0; position < board.positions; position += 3) {
+        uint8_t share[NSG_MOST_VALUE_BYTES];
+        differing += nsg_open_one(keys[i].bytes, length, position, share, board.value_bytes) != NSG_ACCEPTED;
+        differing += memcmp(share, tables[i].bytes + position * board.value_bytes, board.value_bytes) != 0;
+    }
+    return differing;
+}
+
+/* One board: deals, opens player 0's table and squares of it, joins; counts answers and bytes that differ. */
+static unsigned differences(unsigned i)
+{
+    const struct board board = draws[i].board;
+    struct lent own = lend_filled(0, keys[i].length), table = lend_filled(0, tables[i].length), whole = lend_filled(0, joined[i].length);
+    uint64_t length = keys[i].length / board.players;
+    unsigned differing = deal(&draws[i], &own) != NSG_ACCEPTED;
+    differing += memcmp(own.bytes, keys[i].bytes, (size_t)own.length) != 0;
+    differing += nsg_open_all(keys[i].bytes, length, table.bytes, table.length) != NSG_ACCEPTED;
+    differing += memcmp(table.bytes, tables[i].bytes, (size_t)table.length) != 0;
+    differing += squares_differing(i, length);
+    differing += nsg_join_keys(keys[i].bytes, keys[i].length, whole.bytes, whole.length) != NSG_ACCEPTED;
+    differing += memcmp(whole.bytes, joined[i].bytes, (size_t)whole.length) != 0;
+    differing += nsg_open_all(keys[i].bytes, length - 1, table.bytes, table.length) != NSG_REFUSED_LENGTH;
+    give_back(&own);
+    give_back(&table);
+    give_back(&whole);
+    return differing;
+}
+
+static void *run(void *argument)
+{
+    struct work *work = argument;
+    pthread_barrier_wait(&start);
+    for (unsigned round = 0; round < ROUNDS; round++)
+        work->differing += differences((work->number + round) % BOARDS);
+    return NULL;
+}
+
+void test_threads(void)
+{
+    static const struct board boards[BOARDS] = {{2, 64, 12, 16}, {4, 72, 24, 1}, {5, 300, 34, 3}, {6, 1000, 179, 4}};
+    struct work works[THREADS];
+    for (unsigned i = 0; i < BOARDS; i++) {
+        draws[i] = draw_dealing(boards[i], boards[i].positions / 2);
+        keys[i] = dealt_keys(&draws[i]);
+        tables[i] = lend_filled(0, NSG_TABLE_BYTES(boards[i].positions, boards[i].value_bytes));
+        joined[i] = lend_filled(0, tables[i].length);
+        CHECK(nsg_open_all(keys[i].bytes, key_length(boards[i]), tables[i].bytes, tables[i].length) == NSG_ACCEPTED);
+        CHECK(nsg_join_keys(keys[i].bytes, keys[i].length, joined[i].bytes, joined[i].length) == NSG_ACCEPTED);
+    }
+    CHECK(pthread_barrier_init(&start, NULL, THREADS) == 0);
+    for (unsigned t = 0; t < THREADS; t++) {
+        works[t].number = t;
+        works[t].differing = 0;
+        CHECK(pthread_create(&works[t].thread, NULL, run, &works[t]) == 0);
+    }
+    for (unsigned t = 0; t < THREADS; t++) {
+        CHECK(pthread_join(works[t].thread, NULL) == 0);
+        CHECK(works[t].differing == 0);
+    }
+    pthread_barrier_destroy(&start);
+    for (unsigned i = 0; i < BOARDS; i++) {
+        give_back_draw(&draws[i]);
+        give_back(&keys[i]);
+        give_back(&tables[i]);
+        give_back(&joined[i]);
+    }
+    printf("threads: %u threads, %u rounds each\n", (unsigned)THREADS, (unsigned)ROUNDS);
+}

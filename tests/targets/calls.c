@@ -1,0 +1,599 @@
+/* The test of a target, the same text for all of them: the comparison's data, random calls, and the largest dealings of a small board.
+   What it prints is compared with what it prints over the x86-64 library. It needs no C library and no more memory than ROOM bytes, two
+   small buffers and a little stack. */
+#include "nosingginger.h"
+#include "platform.h"
+
+/* ROOM, which the compiler is given, is how many bytes a call's lent slices may take together; BOARD_ROOM is what the small board has. There
+   the larger calls are left out; all others are the same on every target. */
+#if ROOM < BOARD_ROOM
+#error "every target has at least the small board's room"
+#endif
+
+enum { ROUNDS = 1000, LARGE_ROUNDS = 60, LARGE_ROOM = 1 << 19 };
+enum { GUARD = 16, GUARD_BYTE = 0x5A, CHUNK = 256 };
+
+static uint8_t room[ROOM + GUARD];
+static uint32_t wrong;
+
+/* ---- printing */
+
+void text(const char *words)
+{
+    uint32_t length = 0;
+    while (words[length] != 0)
+        length++;
+    say(words, length);
+}
+
+void decimal(uint32_t number)
+{
+    char digits[10];
+    uint32_t at = sizeof digits;
+    do {
+        digits[--at] = (char)('0' + number % 10);
+        number /= 10;
+    } while (number != 0);
+    say(digits + at, (uint32_t)sizeof digits - at);
+}
+
+static void hexadecimal(uint64_t number)
+{
+    char digits[16];
+    for (uint32_t i = 0; i < 16; i++)
+        digits[i] = "0123456789abcdef"[number >> (60 - 4 * i) & 15];
+    say(digits, 16);
+}
+
+/* ---- bytes */
+
+static void fill(uint8_t *bytes, uint32_t length, uint8_t byte)
+{
+    for (uint32_t i = 0; i < length; i++)
+        bytes[i] = byte;
+}
+
+static uint32_t all_are(const uint8_t *bytes, uint32_t length, uint8_t byte)
+{
+    for (uint32_t i = 0; i < length; i++)
+        if (bytes[i] != byte)
+            return 0;
+    return 1;
+}
+
+/* FNV-1a, over everything that was answered. */
+static uint64_t digest;
+
+static uint64_t mixed(uint64_t sum, const uint8_t *bytes, uint32_t length)
+{
+    for (uint32_t i = 0; i < length; i++)
+        sum = (sum ^ bytes[i]) * 0x100000001b3u;
+    return sum;
+}
+
+static void record_number(uint64_t number)
+{
+    uint8_t bytes[8];
+    for (uint32_t i = 0; i < 8; i++)
+        bytes[i] = (uint8_t)(number >> 8 * i);
+    digest = mixed(digest, bytes, 8);
+}
+
+static void record_bytes(const uint8_t *bytes, uint32_t length) { digest = mixed(digest, bytes, length); }
+
+/* ---- the comparison's data; reference/FORMAT.md says how it is written */
+
+enum { KEY_LENGTH = 1, DEAL, CHECK_KEY, OPEN_ONE, OPEN_ALL, JOIN_SHARES, JOIN_KEYS, HELD_SEED, EXPAND, CHOOSE_WIDTH, SENSOR_POSITION };
+enum { FILE_HEAD = 24, CASE_HEAD = 68, UNTOUCHED = 0x0BADCAFE };
+
+struct one_case {
+    uint8_t operation, refusal, filled, kept;
+    uint32_t in[5], out[5], lengths[4], lent, answered;
+};
+
+static uint32_t number_at(const uint8_t *bytes)
+{
+    return (uint32_t)bytes[0] | (uint32_t)bytes[1] << 8 | (uint32_t)bytes[2] << 16 | (uint32_t)bytes[3] << 24;
+}
+
+static struct one_case read_case(void)
+{
+    uint8_t head[CASE_HEAD];
+    struct one_case c;
+    take(head, CASE_HEAD);
+    c.operation = head[0];
+    c.refusal = head[1];
+    c.filled = head[2];
+    c.kept = head[3];
+    for (uint32_t i = 0; i < 5; i++) {
+        c.in[i] = number_at(head + 4 + 4 * i);
+        c.out[i] = number_at(head + 24 + 4 * i);
+    }
+    for (uint32_t i = 0; i < 4; i++)
+        c.lengths[i] = number_at(head + 44 + 4 * i);
+    c.lent = number_at(head + 60);
+    c.answered = number_at(head + 64);
+    return c;
+}
+
+static void pass_over(uint32_t length)
+{
+    uint8_t chunk[CHUNK];
+    while (length > 0) {
+        uint32_t now = length < CHUNK ? length : CHUNK;
+        take(chunk, now);
+        length -= now;
+    }
+}
+
+/* The rest of the case's bytes are those answered: 1 where they are these. */
+static uint32_t answered_are(const uint8_t *bytes, uint32_t length)
+{
+    uint8_t chunk[CHUNK];
+    uint32_t same = 1;
+    while (length > 0) {
+        uint32_t now = length < CHUNK ? length : CHUNK;
+        take(chunk, now);
+        for (uint32_t i = 0; i < now; i++)
+            same &= bytes[i] == chunk[i];
+        bytes += now;
+        length -= now;
+    }
+    return same;
+}
+
+/* Makes the call; the numbers that come out stand in `numbers`, and are untouched where the operation has none. */
+static uint32_t call(const struct one_case *c, const uint8_t *input, uint8_t *out, uint32_t numbers[5])
+{
+    const uint32_t *in = c->in, *l = c->lengths;
+    switch (c->operation) {
+    case KEY_LENGTH: return nsg_key_length(in[0], in[1], in[2], in[3], numbers);
+    case DEAL:
+        return nsg_deal(in[0], in[1], in[2], in[3], in[4], input, l[0], input + l[0], l[1], input + l[0] + l[1], l[2],
+                        input + l[0] + l[1] + l[2], l[3], out, c->lent);
+    case CHECK_KEY: return nsg_check_key(input, l[0], numbers);
+    case OPEN_ONE: return nsg_open_one(input, l[0], in[0], out, c->lent);
+    case OPEN_ALL: return nsg_open_all(input, l[0], out, c->lent);
+    case JOIN_SHARES: return nsg_join_shares(in[0], in[1], input, l[0], out, c->lent);
+    case JOIN_KEYS: return nsg_join_keys(input, l[0], out, c->lent);
+    case HELD_SEED: numbers[0] = (uint32_t)nsg_held_seed(input, l[0], in[0], in[1]); return 0;
+    case EXPAND: return nsg_expand(input, l[0], out, c->lent);
+    case CHOOSE_WIDTH: return nsg_choose_width(in[0], in[1], numbers);
+    case SENSOR_POSITION: return nsg_sensor_position(in[0], numbers);
+    }
+    return UNTOUCHED;
+}
+
+/* How many numbers come out of an accepted call. */
+static uint32_t numbers_of(uint32_t operation)
+{
+    switch (operation) {
+    case KEY_LENGTH: case HELD_SEED: case CHOOSE_WIDTH: case SENSOR_POSITION: return 1;
+    case CHECK_KEY: return 5;
+    }
+    return 0;
+}
+
+/* Runs a case whose inputs stand at the front of the room; 1 where all is as the second implementation has it. */
+static uint32_t same_as_stored(const struct one_case *c, uint32_t inputs)
+{
+    uint8_t *out = room + inputs;
+    uint32_t numbers[5] = {UNTOUCHED, UNTOUCHED, UNTOUCHED, UNTOUCHED, UNTOUCHED}, written, same;
+    uint64_t before = mixed(0, room, inputs);
+    fill(out, c->lent, c->filled);
+    fill(out + c->lent, GUARD, GUARD_BYTE);
+    same = call(c, room, out, numbers) == c->refusal;
+    written = c->refusal == 0 ? numbers_of(c->operation) : 0;
+    for (uint32_t i = 0; i < 5; i++)
+        same &= numbers[i] == (i < written ? c->out[i] : (uint32_t)UNTOUCHED);
+    if (c->operation == HELD_SEED) {
+        uint32_t place = numbers[0] <= inputs && c->answered <= inputs - numbers[0] ? numbers[0] : 0;
+        return (answered_are(room + place, c->answered) & same & (place == numbers[0]));
+    }
+    if (c->answered > c->lent) {
+        pass_over(c->answered);
+        return 0;
+    }
+    same &= answered_are(out, c->answered);
+    same &= all_are(out + c->answered, c->lent - c->answered, c->filled);
+    same &= all_are(out + c->lent, GUARD, GUARD_BYTE);
+    return same & (mixed(0, room, inputs) == before);
+}
+
+static void run_cases(void)
+{
+    uint8_t head[FILE_HEAD];
+    uint32_t cases, called = 0, equal = 0, programs = 0, too_large = 0, refused = 0, held = 0, inputs = 0;
+    take(head, FILE_HEAD);
+    cases = number_at(head + 8);
+    for (uint32_t i = 0; i < cases; i++) {
+        struct one_case c = read_case();
+        if (!c.kept) {
+            inputs = c.lengths[0] + c.lengths[1] + c.lengths[2] + c.lengths[3];
+            held = inputs <= ROOM;
+            if (held)
+                take(room, inputs);
+            else
+                pass_over(inputs);
+        }
+        if (c.operation > SENSOR_POSITION) {
+            programs++;
+            pass_over(c.answered);
+        } else if (!held || c.lent > ROOM - inputs) {
+            too_large++;
+            pass_over(c.answered);
+        } else {
+            called++;
+            refused += c.refusal != 0;
+            if (same_as_stored(&c, inputs)) {
+                equal++;
+            } else {
+                text("DIFFERENT case ");
+                decimal(i);
+                text(" of operation ");
+                decimal(c.operation);
+                text("\n");
+            }
+        }
+    }
+    wrong += called - equal + (called == 0);
+    text("cases: ");
+    decimal(called);
+    text(" called, of which ");
+    decimal(refused);
+    text(" are refused; ");
+    decimal(equal);
+    text(" equal; left out ");
+    decimal(programs);
+    text(" of the two programs and ");
+    decimal(too_large);
+    text(" that take more than ");
+    decimal(ROOM);
+    text(" bytes\n");
+}
+
+/* ---- random calls */
+
+enum { PLAYERS = NSG_MOST_PLAYERS, POSITIONS = NSG_MOST_POSITIONS, WIDTH = NSG_MOST_WIDTH, VALUE_BYTES = NSG_MOST_VALUE_BYTES };
+enum { SEED = NSG_SEED_BYTES, ROW_BYTES = NSG_MOST_EXPANDED_BYTES, CALLS_IN_A_LINE = 5000 };
+
+static uint64_t state;
+static uint32_t calls;
+
+/* splitmix64 */
+static uint64_t next(void)
+{
+    uint64_t z = state += 0x9e3779b97f4a7c15u;
+    z = (z ^ z >> 30) * 0xbf58476d1ce4e5b9u;
+    z = (z ^ z >> 27) * 0x94d049bb133111ebu;
+    return z ^ z >> 31;
+}
+
+static uint32_t below(uint32_t limit) { return (uint32_t)(next() % limit); }
+
+static void draw(uint8_t *bytes, uint32_t length)
+{
+    for (uint32_t i = 0; i < length; i++)
+        bytes[i] = (uint8_t)(next() >> 32);
+}
+
+/* Takes an answer into the digest, and a line of it after every so many calls. */
+static uint32_t called(uint32_t answer)
+{
+    record_number(answer);
+    if (++calls % CALLS_IN_A_LINE == 0) {
+        decimal(calls);
+        text(" random calls ");
+        hexadecimal(digest);
+        text("\n");
+    }
+    return answer;
+}
+
+/* A board, a dealing's places in the room, and the point: value, arrays, seeds, words, keys and a free rest stand one behind another. */
+struct dealing {
+    uint32_t players, positions, width, value_bytes, point;
+    uint32_t columns, grid_rows, key_bytes;
+    uint32_t arrays, arrays_bytes, seeds, seeds_bytes, words, words_bytes, keys, keys_bytes, rest;
+};
+
+/* 1 where the board is one, its places are set, and all of them end within the limit. */
+static uint32_t place(struct dealing *d, uint32_t limit)
+{
+    if (nsg_key_length(d->players, d->positions, d->width, d->value_bytes, &d->key_bytes) != 0)
+        return 0;
+    d->columns = NSG_COLUMNS(d->players);
+    d->grid_rows = NSG_GRID_ROWS(d->positions, d->width);
+    d->arrays = d->value_bytes;
+    d->arrays_bytes = NSG_ARRAYS_BYTES(d->players, d->positions, d->width);
+    d->seeds = d->arrays + d->arrays_bytes;
+    d->seeds_bytes = NSG_SEEDS_BYTES(d->players, d->positions, d->width);
+    d->words = d->seeds + d->seeds_bytes;
+    d->words_bytes = NSG_WORDS_BYTES(d->players, d->width, d->value_bytes);
+    d->keys = d->words + d->words_bytes;
+    d->keys_bytes = d->players * d->key_bytes;
+    d->rest = d->keys + d->keys_bytes;
+    return d->rest <= limit;
+}
+
+static uint32_t ones(uint32_t bits)
+{
+    uint32_t count = 0;
+    for (; bits != 0; bits >>= 1)
+        count += bits & 1;
+    return count;
+}
+
+/* Draws everything that a dealing is lent: the columns of each array in any order. */
+static void draw_dealing(const struct dealing *d)
+{
+    draw(room, d->keys);
+    for (uint32_t row = 0; row < d->grid_rows; row++) {
+        uint8_t *array = room + d->arrays + row * d->columns;
+        uint32_t parity = row == d->point / d->width, length = 0;
+        for (uint32_t column = 0; column < 2 * d->columns; column++)
+            if (ones(column) % 2 == parity)
+                array[length++] = (uint8_t)column;
+        while (length > 1) {
+            uint32_t other = below(length--);
+            uint8_t column = array[other];
+            array[other] = array[length];
+            array[length] = column;
+        }
+    }
+}
+
+static uint32_t deal(const struct dealing *d, uint32_t arrays_bytes, uint32_t keys_bytes)
+{
+    return nsg_deal(d->players, d->positions, d->width, d->value_bytes, d->point, room, d->value_bytes, room + d->arrays, arrays_bytes,
+                    room + d->seeds, d->seeds_bytes, room + d->words, d->words_bytes, room + d->keys, keys_bytes);
+}
+
+/* Opens a square by every player alone and joins the shares: 1 where that gives the value on the point and zeros elsewhere. */
+static uint32_t square_joins(const struct dealing *d, uint32_t position)
+{
+    uint8_t shares[PLAYERS * VALUE_BYTES], joined[VALUE_BYTES];
+    uint32_t good = 1, w = d->value_bytes;
+    fill(shares, sizeof shares, 0x33);
+    fill(joined, sizeof joined, 0x44);
+    for (uint32_t player = 0; player < d->players; player++)
+        good &= called(nsg_open_one(room + d->keys + player * d->key_bytes, d->key_bytes, position, shares + player * w, w)) == 0;
+    good &= called(nsg_join_shares(d->players, w, shares, (uint64_t)d->players * w, joined, w)) == 0;
+    record_bytes(shares, sizeof shares);
+    record_bytes(joined, sizeof joined);
+    for (uint32_t i = 0; i < w; i++)
+        good &= joined[i] == (position == d->point ? room[i] : 0);
+    return good;
+}
+
+/* Joins all keys into the rest of the room, where the table fits there: 1 where it is the value on the point and zeros elsewhere. */
+static uint32_t keys_join(const struct dealing *d, uint32_t limit)
+{
+    uint8_t *table = room + d->rest;
+    uint32_t good, w = d->value_bytes, table_bytes = d->positions * w;
+    if (table_bytes > limit - d->rest)
+        return 1;
+    fill(table, table_bytes, 0x66);
+    good = called(nsg_join_keys(room + d->keys, d->keys_bytes, table, table_bytes)) == 0;
+    record_bytes(table, table_bytes);
+    for (uint32_t position = 0; position < d->positions; position++)
+        for (uint32_t i = 0; i < w; i++)
+            good &= table[position * w + i] == (position == d->point ? room[i] : 0);
+    return good;
+}
+
+/* Every call on one player's key, of any length and with any bytes, accepted or refused. */
+static void try_key(const struct dealing *d, const uint8_t *key, uint32_t key_bytes, uint32_t limit)
+{
+    uint32_t header[5] = {UNTOUCHED, UNTOUCHED, UNTOUCHED, UNTOUCHED, UNTOUCHED}, w = d->value_bytes;
+    uint32_t table_bytes = d->positions * w + below(3);
+    uint8_t share[VALUE_BYTES + 1], *table = room + d->rest;
+    called(nsg_check_key(key, key_bytes, header));
+    for (uint32_t i = 0; i < 5; i++)
+        record_number(header[i]);
+    fill(share, sizeof share, 0x77);
+    called(nsg_open_one(key, key_bytes, below(d->positions + 1), share, w - (below(8) == 0)));
+    record_bytes(share, sizeof share);
+    record_number(nsg_held_seed(key, key_bytes, below(d->grid_rows + 1), below(d->columns + 1)));
+    if (below(8) == 0)
+        table_bytes -= 3;
+    if (table_bytes <= limit - d->rest) {
+        fill(table, table_bytes, 0x88);
+        called(nsg_open_all(key, key_bytes, table, table_bytes));
+        record_bytes(table, table_bytes);
+    }
+}
+
+/* A board drawn so that all sizes come often: few squares and many, narrow and wide grids. */
+static void draw_board(struct dealing *d, uint32_t limit)
+{
+    do {
+        static const uint32_t reach[] = {4, 72, 1000, POSITIONS};
+        d->players = 2 + below(PLAYERS - 1);
+        d->positions = 1 + below(reach[below(4)]);
+        d->value_bytes = below(2) == 0 ? 1 : 1 + below(VALUE_BYTES);
+        d->width = 1 + below(WIDTH);
+        if (below(2) == 0)
+            nsg_choose_width(d->players, d->positions, &d->width);
+        d->point = below(d->positions);
+    } while (!place(d, limit));
+}
+
+/* One dealing with everything that can be done with its keys, and then with one byte changed, a key cut, or two keys exchanged. */
+static void random_dealing(uint32_t limit)
+{
+    struct dealing d;
+    uint8_t *key;
+    draw_board(&d, limit);
+    draw_dealing(&d);
+    fill(room + d.keys, d.keys_bytes, 0x55);
+    if (below(4) == 0) {
+        /* a column that may not stand there, a length that is not right, or too little room */
+        uint32_t what = below(3), damaged = d.arrays + below(d.arrays_bytes);
+        if (what == 0)
+            room[damaged] ^= (uint8_t)(1u << below(8));
+        called(deal(&d, d.arrays_bytes - (what == 1), d.keys_bytes - (what == 2)));
+        record_bytes(room, d.rest);
+        return;
+    }
+    wrong += called(deal(&d, d.arrays_bytes, d.keys_bytes)) != 0;
+    record_bytes(room, d.rest);
+    wrong += !square_joins(&d, d.point);
+    wrong += !square_joins(&d, below(d.positions));
+    wrong += !keys_join(&d, limit);
+    key = room + d.keys + below(d.players) * d.key_bytes;
+    try_key(&d, key, d.key_bytes, limit);
+    /* a change of the header and the first marks comes as often as one anywhere */
+    key[below(2) == 0 ? below(d.key_bytes) : below(8)] ^= (uint8_t)(1u << below(8));
+    try_key(&d, key, d.key_bytes - (below(4) == 0), limit);
+    if (below(3) == 0)
+        for (uint32_t i = 0; i < d.key_bytes; i++) {
+            uint8_t byte = room[d.keys + i];
+            room[d.keys + i] = room[d.keys + d.key_bytes + i];
+            room[d.keys + d.key_bytes + i] = byte;
+        }
+    if (d.positions * d.value_bytes <= limit - d.rest) {
+        fill(room + d.rest, d.positions * d.value_bytes, 0x99);
+        called(nsg_join_keys(room + d.keys, d.keys_bytes - (below(8) == 0), room + d.rest, d.positions * d.value_bytes));
+        record_bytes(room + d.rest, d.positions * d.value_bytes);
+    }
+}
+
+/* The calls that need no dealing, with numbers and lengths in and out of their ranges. */
+static void random_small_calls(void)
+{
+    uint32_t number = UNTOUCHED, length = below(4) == 0 ? below(ROW_BYTES + 3) : below(200);
+    draw(room, SEED + 1);
+    fill(room + SEED + 1, ROW_BYTES + 3, 0xAA);
+    called(nsg_expand(room, SEED - (below(16) == 0) + (below(16) == 0), room + SEED + 1, length));
+    record_bytes(room + SEED + 1, length);
+    called(nsg_key_length(below(8), below(2) == 0 ? below(POSITIONS + 2) : below(300), below(WIDTH + 2), below(VALUE_BYTES + 2), &number));
+    record_number(number);
+    called(nsg_choose_width(below(8), below(2) == 0 ? below(POSITIONS + 2) : below(300), &number));
+    record_number(number);
+    called(nsg_sensor_position(below(NSG_SENSORS + 8), &number));
+    record_number(number);
+    draw(room, 120);
+    fill(room + 120, 20, 0xBB);
+    called(nsg_join_shares(below(8), below(VALUE_BYTES + 2), room, below(120), room + 120, below(20)));
+    record_bytes(room + 120, 20);
+    number = 2 + below(PLAYERS - 1);
+    length = 1 + below(VALUE_BYTES);
+    called(nsg_join_shares(number, length, room, (uint64_t)number * length, room + 120, 20));
+    record_bytes(room + 120, 20);
+}
+
+static void run_random(uint32_t rounds, uint32_t limit)
+{
+    for (uint32_t i = 0; i < rounds; i++) {
+        random_dealing(limit);
+        random_small_calls();
+    }
+    decimal(calls);
+    text(" random calls, those in at most ");
+    decimal(limit);
+    text(" bytes done: ");
+    hexadecimal(digest);
+    text("\n");
+}
+
+/* ---- the largest dealing that a small board can make */
+
+/* The most squares whose dealing stays in the limit, and among these boards the one that takes the fewest bytes. */
+static struct dealing largest(uint32_t players, uint32_t value_bytes, uint32_t limit)
+{
+    struct dealing best, d;
+    best.positions = best.rest = 0;
+    d.players = players;
+    d.value_bytes = value_bytes;
+    for (d.width = 1; d.width <= WIDTH; d.width++)
+        for (uint32_t rows = 1; rows <= NSG_MOST_GRID_ROWS; rows++) {
+            d.positions = rows * d.width;
+            if (!place(&d, limit))
+                break;
+            if (d.positions > best.positions || (d.positions == best.positions && d.rest < best.rest))
+                best = d;
+        }
+    return best;
+}
+
+/* Deals it, and finds the piece by opening the point and two other squares. */
+static void deal_largest(uint32_t players, uint32_t value_bytes, uint32_t limit)
+{
+    struct dealing d = largest(players, value_bytes, limit);
+    uint32_t good;
+    d.point = d.positions - 1 - d.positions / 3;
+    draw_dealing(&d);
+    good = called(deal(&d, d.arrays_bytes, d.keys_bytes)) == 0;
+    record_bytes(room, d.rest);
+    good &= square_joins(&d, d.point) & square_joins(&d, 0) & square_joins(&d, d.positions - 1);
+    wrong += !good;
+    text("largest dealing: players ");
+    decimal(players);
+    text(", value bytes ");
+    decimal(value_bytes);
+    text(": ");
+    decimal(d.positions);
+    text(" squares, ");
+    decimal(d.grid_rows);
+    text(" grid rows of ");
+    decimal(d.width);
+    text(", ");
+    decimal(d.keys);
+    text(" bytes lent and ");
+    decimal(d.keys_bytes);
+    text(" bytes of keys");
+    text(good ? "\n" : ", WRONG\n");
+}
+
+/* The largest table there is, which two players join. */
+static void join_largest_table(void)
+{
+    struct dealing d = {.players = 2, .positions = POSITIONS, .width = WIDTH, .value_bytes = VALUE_BYTES, .point = POSITIONS - 2};
+    wrong += !place(&d, ROOM);
+    draw_dealing(&d);
+    wrong += called(deal(&d, d.arrays_bytes, d.keys_bytes)) != 0;
+    wrong += !keys_join(&d, ROOM);
+    text("largest table: ");
+    hexadecimal(digest);
+    text("\n");
+}
+
+int test(void)
+{
+    digest = 0xcbf29ce484222325u;
+    state = 0x6e6f73696e67u;
+    run_cases();
+    run_random(ROUNDS, BOARD_ROOM);
+    for (uint32_t players = 2; players <= PLAYERS; players++) {
+        deal_largest(players, 1, BOARD_ROOM);
+        deal_largest(players, VALUE_BYTES, BOARD_ROOM);
+    }
+    if (ROOM > LARGE_ROOM) {
+        run_random(LARGE_ROUNDS, LARGE_ROOM);
+        join_largest_table();
+    }
+    text(wrong == 0 ? "right\n" : "WRONG\n");
+    return wrong != 0;
+}
+
+/* ---- for measuring: a dealing that stays, and its first player's table opened */
+
+static struct dealing timed;
+
+void deal_timed(uint32_t players, uint32_t positions, uint32_t width, uint32_t value_bytes)
+{
+    timed.players = players;
+    timed.positions = positions;
+    timed.width = width;
+    timed.value_bytes = value_bytes;
+    timed.point = 0;
+    place(&timed, ROOM);
+    draw_dealing(&timed);
+    deal(&timed, timed.arrays_bytes, timed.keys_bytes);
+}
+
+uint32_t open_timed(void)
+{
+    return nsg_open_all(room + timed.keys, timed.key_bytes, room + timed.rest, timed.positions * timed.value_bytes);
+}

@@ -1,0 +1,42 @@
+// Draws a dealing from a source of random bytes: what a board's noise chip does. Nothing here is proved, nor that the bytes are random.
+
+/** A whole number below `bound` (at most 2 to the power of 24), each as likely as another: draws that would favour some are thrown away. */
+function below(bound, random) {
+    const most = Math.floor(2 ** 24 / bound) * bound;
+    for (;;) {
+        const [low, middle, high] = random(3);
+        const number = low + middle * 256 + high * 65536;
+        if (number < most) return number % bound;
+    }
+}
+
+/** The columns of one parity for this many players, each exactly once, in an order drawn uniformly. */
+function shuffledArray(players, parity, random) {
+    const ones = (column) => column.toString(2).replaceAll('0', '').length;
+    const array = Array.from({ length: 2 ** players }, (_, column) => column).filter((column) => ones(column) % 2 === parity);
+    for (let last = array.length - 1; last > 0; last -= 1) {
+        const other = below(last + 1, random);
+        [array[last], array[other]] = [array[other], array[last]];
+    }
+    return array;
+}
+
+/**
+ * A dealing of this board with a drawn point and a drawn value that is not zero.
+ * @param {import('./nosingginger.mjs').Board} board
+ * @param {(length: number) => Uint8Array} random the source of random bytes
+ * @returns {import('./nosingginger.mjs').Dealing}
+ */
+export function randomDealing({ players, positions, width, valueBytes }, random) {
+    const columns = 2 ** (players - 1);
+    const gridRows = Math.ceil(positions / width);
+    const point = below(positions, random);
+    const pieceRow = Math.floor(point / width);
+    let value = random(valueBytes);
+    while (value.every((byte) => byte === 0)) value = random(valueBytes);
+    const arrays = Uint8Array.from(
+        Array.from({ length: gridRows }, (_, gridRow) => shuffledArray(players, gridRow === pieceRow ? 1 : 0, random)).flat());
+    const seeds = random(gridRows * columns * 32);
+    const words = random((columns - 1) * width * valueBytes);
+    return { players, positions, width, valueBytes, point, value, arrays, seeds, words };
+}

@@ -1,0 +1,341 @@
+// The eleven operations of Nosingginger for app makers, over its WebAssembly module: numbers and typed arrays in and out, refusals as errors
+// with a name. Runs in node and in browsers, with no other file than the module's bytes. Assumes that those are Nosingginger's.
+//
+//     import { load, Refused } from './nosingginger.mjs';
+//     const nosingginger = await load(await readFile('nosingginger.wasm'));       // node
+//     const nosingginger = await load(new URL('nosingginger.wasm', location));    // a browser, from a server
+//     const header = nosingginger.checkKey(key);                                  // or throws Refused
+//
+// The WebAssembly module is the proved module compiled for another machine, and tested there; this file is tested, not proved.
+
+/**
+ * The refusal numbers of document 01, by the names that all of Nosingginger's interfaces use, with the words for a person.
+ * @type {ReadonlyArray<{ readonly number: number, readonly name: string, readonly words: string }>}
+ */
+export const REFUSALS = Object.freeze([
+    [1, 'REFUSED_PLAYERS', 'the number of players is not 2 to 6'],
+    [2, 'REFUSED_POSITIONS', 'the number of positions is not 1 to 65,536'],
+    [3, 'REFUSED_WIDTH', 'the grid\u2019s width is not 1 to 256'],
+    [4, 'REFUSED_VALUE_BYTES', 'a value\u2019s width is not 1 to 16 bytes'],
+    [5, 'REFUSED_GRID_ROWS', 'the board has more than 256 grid rows at this width'],
+    [6, 'REFUSED_POINT', 'the piece\u2019s point is none of the board\u2019s positions'],
+    [7, 'REFUSED_LENT', 'an input does not have the length that the numbers ask for'],
+    [8, 'REFUSED_ARRAYS', 'an array has a bit of no player, the wrong parity for its grid row, or a column twice'],
+    [9, 'REFUSED_ROOM', 'the output is too short for what is to be written'],
+    [10, 'REFUSED_NUMBER', 'a key\u2019s header has a number that is cut short, over three groups or not in its shortest form'],
+    [11, 'REFUSED_PLAYER', 'a key\u2019s player is not below its number of players'],
+    [12, 'REFUSED_LENGTH', 'a key, or all keys together, do not have the length that the header asks for'],
+    [13, 'REFUSED_MARKS', 'a key marks another number of columns than half in some grid row, or has a spare bit set'],
+    [14, 'REFUSED_POSITION', 'the position is none of the board\u2019s'],
+    [15, 'REFUSED_PLACE', 'a key is of another board than the first, or not of the player whose place it stands in'],
+    [16, 'REFUSED_EXPANSION', 'more than 4,096 bytes are asked of a seed'],
+    [17, 'REFUSED_SENSOR', 'the sensor is none of the spring board\u2019s 72'],
+].map(([number, name, words]) => Object.freeze({ number, name, words })));
+
+/** A call that was refused. The lent output is as it was. */
+export class Refused extends Error {
+    /** @param {number} number document 01's refusal number */
+    constructor(number) {
+        const { name, words } = REFUSALS[number - 1] ?? { name: 'REFUSED', words: 'a number that is not known here' };
+        super(`refused ${number}: ${words}`);
+        /** Document 01's number, 1 to 17. @type {number} */
+        this.number = number;
+        /** The number's name, as 'REFUSED_LENGTH'. @type {string} */
+        this.name = name;
+        /** The number in words. @type {string} */
+        this.words = words;
+    }
+}
+
+/**
+ * A board's four numbers: players (2 to 6), positions (1 to 65,536), the grid's width (1 to 256) and the bytes of a value (1 to 16).
+ * @typedef {{ players: number, positions: number, width: number, valueBytes: number }} Board
+ */
+
+/**
+ * What a key's header says: the board, and whose key it is.
+ * @typedef {{ players: number, player: number, positions: number, width: number, valueBytes: number }} Header
+ */
+
+/**
+ * A dealing: the board, the piece's point and value, and what is drawn. With J = 2 to the power of players - 1 columns, and as many grid rows
+ * as positions / width rounded up: arrays has J bytes for each grid row, seeds J × 32, and words has (J - 1) × width × valueBytes in all.
+ * @typedef {Board & { point: number, value: Uint8Array, arrays: Uint8Array, seeds: Uint8Array, words: Uint8Array }} Dealing
+ */
+
+const SEED_BYTES = 32;
+const HEADER_NUMBERS = 5;
+const NUMBER_BYTES = 4;
+const PAGE_BYTES = 65536;
+const MOST_PLAYERS = 6;
+const MOST_VALUE_BYTES = 16;
+const CALLS = ['key_length', 'deal', 'check_key', 'open_one', 'open_all', 'join_shares', 'join_keys', 'held_seed', 'expand', 'choose_width',
+    'sensor_position'];
+
+/**
+ * Makes the operations from the WebAssembly module.
+ * @param {BufferSource | WebAssembly.Module | URL | string} source the module's bytes, the module, or where its bytes are
+ * @returns {Promise<Nosingginger>}
+ */
+export async function load(source) {
+    const module = source instanceof WebAssembly.Module ? source : await WebAssembly.compile(await bytesAt(source));
+    return new Nosingginger(await WebAssembly.instantiate(module));
+}
+
+/**
+ * Makes the operations from the module's bytes in base64, as a page has them that is one file.
+ * @param {string} text
+ * @returns {Promise<Nosingginger>}
+ */
+export async function loadBase64(text) {
+    return load(Uint8Array.from(atob(text.trim()), (letter) => letter.charCodeAt(0)));
+}
+
+/** The bytes themselves, or those that a place holds. A browser does not fetch from files: there, lend the bytes or base64. */
+async function bytesAt(source) {
+    if (!(source instanceof URL) && typeof source !== 'string') return source;
+    const place = new URL(source, globalThis.document?.baseURI ?? import.meta.url);
+    if (place.protocol === 'file:' && globalThis.process?.versions?.node) return (await import('node:fs/promises')).readFile(place);
+    const answer = await fetch(place);
+    if (!answer.ok) throw new Error(`no WebAssembly module at ${place}: ${answer.status}`);
+    return answer.arrayBuffer();
+}
+
+/** A number as the module takes it. What 32 bits cannot hold is no number of any call. */
+function u32(number, what) {
+    if (!Number.isInteger(number) || number < 0 || number > 0xFFFFFFFF) {
+        throw new RangeError(`${what} is not a whole number from 0 to 4294967295: ${String(number)}`);
+    }
+    return number;
+}
+
+function bytes(given, what) {
+    if (!(given instanceof Uint8Array)) throw new TypeError(`${what} is not a Uint8Array`);
+    return given;
+}
+
+/**
+ * The operations. Every call takes numbers and lent bytes, answers its result, or throws `Refused` with the first number that fits. A call
+ * holds no state. The module works on copies of the lent bytes; the copies are wiped after each call, the module's own stack is not.
+ *
+ * An output may be lent to the calls that write bytes, as their last argument: they write to its front and answer that part of it. Whatever
+ * a call leaves of the lent output, of refused calls too, is what the module left of it. Without one, a new array of the right length is
+ * answered.
+ */
+export class Nosingginger {
+    #calls;
+    #memory;
+    #start;
+
+    /** @param {WebAssembly.Instance} instance of Nosingginger's module; `load` makes one */
+    constructor(instance) {
+        const { memory } = instance.exports;
+        if (!(memory instanceof WebAssembly.Memory)) throw new TypeError('not Nosingginger\u2019s module: it has no memory');
+        this.#calls = Object.fromEntries(CALLS.map((name) => {
+            const call = instance.exports[`nsg_${name}`];
+            if (typeof call !== 'function') throw new TypeError(`not Nosingginger\u2019s module: it has no nsg_${name}`);
+            return [name, call];
+        }));
+        this.#memory = memory;
+        // The memory that the module came with is its own; lent bytes stand behind it.
+        this.#start = memory.buffer.byteLength;
+    }
+
+    /**
+     * KEY LENGTH: the bytes of each player's key. Refusals: 1 to 5.
+     * @param {Board} board
+     * @returns {number}
+     */
+    keyLength({ players, positions, width, valueBytes }) {
+        const numbers = [u32(players, 'players'), u32(positions, 'positions'), u32(width, 'width'), u32(valueBytes, 'valueBytes')];
+        return this.#value((place) => this.#calls.key_length(...numbers, place));
+    }
+
+    /**
+     * DEAL: the keys of all players one after another, player 0 first. Refusals: 1 to 9.
+     * @param {Dealing} dealing
+     * @param {Uint8Array} [out] lent output of at least players × key length bytes
+     * @returns {Uint8Array} the keys
+     */
+    deal({ players, positions, width, valueBytes, point, value, arrays, seeds, words }, out) {
+        const numbers = [u32(players, 'players'), u32(positions, 'positions'), u32(width, 'width'), u32(valueBytes, 'valueBytes'),
+            u32(point, 'point')];
+        const inputs = [bytes(value, 'value'), bytes(arrays, 'arrays'), bytes(seeds, 'seeds'), bytes(words, 'words')];
+        const room = () => players * this.keyLength({ players, positions, width, valueBytes });
+        return this.#answer(out, room, inputs, (lent, output) => this.#calls.deal(...numbers, ...lent, ...output));
+    }
+
+    /**
+     * CHECK KEY: the header's numbers of an accepted key. Refusals: 10, 1 to 5, 11, 12, 13.
+     * @param {Uint8Array} key
+     * @returns {Header}
+     */
+    checkKey(key) {
+        const header = new Uint8Array(HEADER_NUMBERS * NUMBER_BYTES);
+        this.#write([bytes(key, 'key')], header, (lent, [place]) => this.#calls.check_key(...lent, place));
+        const numbers = new DataView(header.buffer);
+        const [players, player, positions, width, valueBytes] =
+            Array.from({ length: HEADER_NUMBERS }, (_, place) => numbers.getUint32(place * NUMBER_BYTES, true));
+        return { players, player, positions, width, valueBytes };
+    }
+
+    /**
+     * OPEN ONE: the key's share of one position, as many bytes as a value has. Refusals: those of checkKey, 14, 9.
+     * @param {Uint8Array} key
+     * @param {number} position
+     * @param {Uint8Array} [out] lent output
+     * @returns {Uint8Array} the share
+     */
+    openOne(key, position, out) {
+        u32(position, 'position');
+        const room = () => this.checkKey(key).valueBytes;
+        return this.#answer(out, room, [bytes(key, 'key')], (lent, output) => this.#calls.open_one(...lent, position, ...output));
+    }
+
+    /**
+     * OPEN ALL: the key's full table, its share of each position from 0 on. Refusals: those of checkKey, 9.
+     * @param {Uint8Array} key
+     * @param {Uint8Array} [out] lent output
+     * @returns {Uint8Array} the table, positions × valueBytes bytes
+     */
+    openAll(key, out) {
+        const room = () => tableBytes(this.checkKey(key));
+        return this.#answer(out, room, [bytes(key, 'key')], (lent, output) => this.#calls.open_all(...lent, ...output));
+    }
+
+    /**
+     * JOIN SHARES: the XOR of all players' shares. Refusals: 1, 4, 7, 9.
+     * @param {{ players: number, valueBytes: number, shares: Uint8Array }} given the shares one after another
+     * @param {Uint8Array} [out] lent output
+     * @returns {Uint8Array} the value, valueBytes bytes
+     */
+    joinShares({ players, valueBytes, shares }, out) {
+        u32(players, 'players');
+        u32(valueBytes, 'valueBytes');
+        // A longer share is refused and needs no room.
+        const room = () => Math.min(valueBytes, MOST_VALUE_BYTES);
+        const inputs = [bytes(shares, 'shares')];
+        return this.#answer(out, room, inputs, (lent, output) => this.#calls.join_shares(players, valueBytes, ...lent, ...output));
+    }
+
+    /**
+     * JOIN KEYS: the XOR of the full tables of all players' keys: the value on the piece's square and zero on every other, when the keys are
+     * of one dealing. Refusals: for the first key 10, 1 to 5, 11; 12; then for each key 10, 1 to 5, 11, 15, 13; last 9.
+     * @param {Uint8Array} keys all keys one after another, player 0 first
+     * @param {Uint8Array} [out] lent output
+     * @returns {Uint8Array} the joined table, positions × valueBytes bytes
+     */
+    joinKeys(keys, out) {
+        const room = () => this.#joinedBytes(keys);
+        return this.#answer(out, room, [bytes(keys, 'keys')], (lent, output) => this.#calls.join_keys(...lent, ...output));
+    }
+
+    /**
+     * HELD SEED: the 32 bytes of the key itself for a grid row and a column, never a copy; an empty part where the key holds none or is not
+     * accepted. It is not refused.
+     * @param {Uint8Array} key
+     * @param {number} gridRow
+     * @param {number} column
+     * @returns {Uint8Array} a part of the lent key
+     */
+    heldSeed(key, gridRow, column) {
+        u32(gridRow, 'gridRow');
+        u32(column, 'column');
+        const place = Number(BigInt.asUintN(64,
+            this.#lend([bytes(key, 'key')], ([lent]) => this.#calls.held_seed(...lent, gridRow, column))));
+        return place === 0 ? key.subarray(0, 0) : key.subarray(place, place + SEED_BYTES);
+    }
+
+    /**
+     * EXPAND: fills the output with the first bytes of the seed's key stream. Refusals: 7, 16.
+     * @param {Uint8Array} seed 32 bytes
+     * @param {Uint8Array} out lent output, at most 4,096 bytes
+     * @returns {Uint8Array} the output
+     */
+    expand(seed, out) {
+        this.#write([bytes(seed, 'seed')], bytes(out, 'out'), (lent, output) => this.#calls.expand(...lent, ...output));
+        return out;
+    }
+
+    /**
+     * CHOOSE WIDTH: the grid's width for a board. Refusals: 1, 2.
+     * @param {{ players: number, positions: number }} board
+     * @returns {number}
+     */
+    chooseWidth({ players, positions }) {
+        const numbers = [u32(players, 'players'), u32(positions, 'positions')];
+        return this.#value((place) => this.#calls.choose_width(...numbers, place));
+    }
+
+    /**
+     * SENSOR POSITION: where a sensor of the spring board lies. Refusal: 17.
+     * @param {number} sensor 0 to 71
+     * @returns {number}
+     */
+    sensorPosition(sensor) {
+        u32(sensor, 'sensor');
+        return this.#value((place) => this.#calls.sensor_position(sensor, place));
+    }
+
+    /** The bytes of the table that these keys join to; 0 where the first of them is not accepted, and they are refused. */
+    #joinedBytes(keys) {
+        for (let players = 2; players <= MOST_PLAYERS; players += 1) {
+            if (keys.length % players !== 0) continue;
+            try {
+                const header = this.checkKey(keys.subarray(0, keys.length / players));
+                if (header.players === players) return tableBytes(header);
+            } catch (error) {
+                if (!(error instanceof Refused)) throw error;
+            }
+        }
+        return 0;
+    }
+
+    /** Runs a call that writes `room()` bytes, to the lent output or to a new one, and answers them. */
+    #answer(out, room, inputs, call) {
+        const output = out ?? new Uint8Array(room());
+        this.#write(inputs, output, call);
+        return out ? output.subarray(0, room()) : output;
+    }
+
+    /** Runs a call that writes one number. */
+    #value(call) {
+        const number = new Uint8Array(NUMBER_BYTES);
+        this.#write([], number, (lent, [place]) => call(place));
+        return new DataView(number.buffer).getUint32(0, true);
+    }
+
+    /** Runs a call that writes to a lent output; the output comes back as the module left it, whatever the answer. */
+    #write(inputs, output, call) {
+        const refusal = this.#lend([...inputs, bytes(output, 'out')], (lent) => {
+            const [place] = lent[inputs.length];
+            const answer = call(lent.slice(0, inputs.length).flat(), lent[inputs.length]) >>> 0;
+            output.set(new Uint8Array(this.#memory.buffer, place, output.length));
+            return answer;
+        });
+        if (refusal !== 0) throw new Refused(refusal);
+    }
+
+    /** Copies slices behind the module's own memory, runs a call on their places and lengths, and wipes the copies. */
+    #lend(slices, call) {
+        let end = this.#start;
+        const places = slices.map((slice) => {
+            const place = end;
+            end += Math.ceil((slice.length + 1) / 16) * 16;
+            return place;
+        });
+        const missing = end - this.#memory.buffer.byteLength;
+        if (missing > 0) this.#memory.grow(Math.ceil(missing / PAGE_BYTES));
+        const memory = new Uint8Array(this.#memory.buffer);
+        slices.forEach((slice, index) => memory.set(slice, places[index]));
+        try {
+            return call(slices.map((slice, index) => [places[index], BigInt(slice.length)]));
+        } finally {
+            memory.fill(0, this.#start, end);
+        }
+    }
+}
+
+function tableBytes({ positions, valueBytes }) {
+    return positions * valueBytes;
+}

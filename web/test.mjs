@@ -1,0 +1,412 @@
+// Tests of nosingginger.mjs in node: every call, every refusal, the printed deal, what is left of a lent output, the largest table, the
+// memory's growth, the second implementation's answers, and what the page makes of keys. Assumes that targets/build has run.
+import assert from 'node:assert/strict';
+import { readFileSync, readdirSync } from 'node:fs';
+import { test } from 'node:test';
+import { load, loadBase64, Nosingginger, Refused, REFUSALS } from './nosingginger.mjs';
+import { randomDealing } from './draw.mjs';
+import { bytesOfHexadecimal, examine, hexadecimal, joinTables, keysApart, keysOfFile, keysOfText, marked, printedDeal, Unreadable }
+    from './match.mjs';
+import { sameEachTime } from './random.mjs';
+
+const root = new URL('../', import.meta.url);
+const moduleBytes = readFileSync(new URL('target/targets/wasm32/nosingginger.wasm', root));
+const nosingginger = await load(moduleBytes);
+
+const FILL = 0xC9;
+const filled = (length) => new Uint8Array(length).fill(FILL);
+
+/** The call is refused with this number, and the lent outputs are as they were. */
+function refused(number, call, ...lent) {
+    const before = lent.map((slice) => slice.slice());
+    assert.throws(call, (error) => {
+        assert.ok(error instanceof Refused && error instanceof Error, String(error));
+        const { name, words } = REFUSALS.find((refusal) => refusal.number === number);
+        assert.deepEqual([error.number, error.name, error.words], [number, name, words]);
+        assert.equal(error.message, `refused ${number}: ${words}`);
+        return true;
+    });
+    lent.forEach((slice, index) => assert.deepEqual(slice, before[index]));
+}
+
+const spring = (players, start = players) =>
+    randomDealing({ players, positions: 72, width: nosingginger.chooseWidth({ players, positions: 72 }), valueBytes: 1 }, sameEachTime(start));
+
+test('the module has no imports and all calls', () => {
+    const module = new WebAssembly.Module(moduleBytes);
+    assert.deepEqual(WebAssembly.Module.imports(module), []);
+    const names = WebAssembly.Module.exports(module).map(({ name }) => name).filter((name) => name.startsWith('nsg_'));
+    assert.equal(names.length, 11);
+});
+
+test('it is made from bytes, a module, a place and base64', async () => {
+    const sources = [moduleBytes, moduleBytes.buffer.slice(moduleBytes.byteOffset, moduleBytes.byteOffset + moduleBytes.length),
+        new WebAssembly.Module(moduleBytes), new URL('target/targets/wasm32/nosingginger.wasm', root)];
+    for (const source of sources) assert.equal((await load(source)).sensorPosition(8), 15);
+    assert.equal((await loadBase64(moduleBytes.toString('base64'))).sensorPosition(8), 15);
+    assert.equal((await load(`data:application/wasm;base64,${moduleBytes.toString('base64')}`)).sensorPosition(8), 15);
+    const empty = new WebAssembly.Module(Uint8Array.of(0, 0x61, 0x73, 0x6D, 1, 0, 0, 0));
+    await assert.rejects(load(empty), /not Nosingginger/);
+    assert.throws(() => new Nosingginger({ exports: { memory: new WebAssembly.Memory({ initial: 1 }) } }), /nsg_key_length/);
+});
+
+test('the numbers have the names of the Rattle sources and of the C header', () => {
+    assert.deepEqual(REFUSALS.map(({ number }) => number), Array.from({ length: 17 }, (_, place) => place + 1));
+    const found = new Map();
+    for (const file of readdirSync(new URL('crates/', root), { recursive: true }).filter((name) => /src\/[^/]*\.rt$/.test(name))) {
+        for (const [, name, number] of readFileSync(new URL(`crates/${file}`, root), 'utf8').matchAll(/pub const (REFUSED_\w+): u32 = (\d+);/g)) {
+            found.set(Number(number), name);
+        }
+    }
+    assert.deepEqual([...found].sort(([a], [b]) => a - b), REFUSALS.map(({ number, name }) => [number, name]));
+    const header = readFileSync(new URL('include/nosingginger.h', root), 'utf8');
+    const named = [...header.matchAll(/^#define NSG_(REFUSED_\w+)\s+(\d+)u\s+\/\* (.*) \*\/$/gm)];
+    assert.deepEqual(named.map(([, name, number, words]) => [Number(number), name, words.replaceAll('\'', '\u2019')]),
+        REFUSALS.map(({ number, name, words }) => [number, name, words]));
+});
+
+test('key length', () => {
+    const board = { players: 4, positions: 72, width: 24, valueBytes: 1 };
+    assert.equal(nosingginger.keyLength(board), 584);
+    assert.equal(nosingginger.keyLength({ players: 6, positions: 65536, width: 256, valueBytes: 16 }), 263176);
+    refused(1, () => nosingginger.keyLength({ ...board, players: 7 }));
+    refused(1, () => nosingginger.keyLength({ players: 1, positions: 0, width: 0, valueBytes: 0 }));
+    refused(2, () => nosingginger.keyLength({ ...board, positions: 65537 }));
+    refused(3, () => nosingginger.keyLength({ ...board, width: 0 }));
+    refused(4, () => nosingginger.keyLength({ ...board, valueBytes: 17 }));
+    refused(5, () => nosingginger.keyLength({ ...board, positions: 65536, width: 255 }));
+    refused(1, () => nosingginger.keyLength({ ...board, players: 0xFFFFFFFF }));
+});
+
+test('choose width, sensor position', () => {
+    assert.equal(nosingginger.chooseWidth({ players: 2, positions: 64 }), 12);
+    assert.equal(nosingginger.chooseWidth({ players: 4, positions: 72 }), 24);
+    assert.equal(nosingginger.chooseWidth({ players: 6, positions: 65536 }), 256);
+    refused(1, () => nosingginger.chooseWidth({ players: 0, positions: 0 }));
+    refused(2, () => nosingginger.chooseWidth({ players: 6, positions: 0 }));
+    const places = Array.from({ length: 72 }, (_, sensor) => nosingginger.sensorPosition(sensor));
+    assert.deepEqual(places.slice(0, 17), [0, 1, 2, 3, 4, 5, 6, 7, 15, 14, 13, 12, 11, 10, 9, 8, 16]);
+    assert.equal(places[71], 71);
+    refused(17, () => nosingginger.sensorPosition(72));
+});
+
+test('expand: the first key stream block of RFC 8439, A.1, and the limits', () => {
+    const seed = new Uint8Array(32);
+    const block = nosingginger.expand(seed, filled(64));
+    assert.equal(Buffer.from(block).toString('hex'), '76b8e0ada0f13d90405d6ae55386bd28bdd219b8a08ded1aa836efcc8b770dc7'
+        + 'da41597c5157488d7724e03fb8d84a376a43b8f41518a11cc387b669b2ee6586');
+    assert.equal(nosingginger.expand(seed, new Uint8Array(0)).length, 0);
+    assert.deepEqual(nosingginger.expand(seed, filled(4096)).subarray(0, 64), block);
+    for (const lent of [filled(10), filled(5000)]) {
+        refused(7, () => nosingginger.expand(new Uint8Array(31), lent), lent);
+    }
+    const lent = filled(4097);
+    refused(16, () => nosingginger.expand(seed, lent), lent);
+});
+
+test('the printed deal', () => {
+    const keys = nosingginger.deal(printedDeal());
+    assert.equal(keys.length, 158);
+    assert.deepEqual([...nosingginger.joinKeys(keys)], [0, 0, 0, 0, 0xA5, 0]);
+    const stored = readFileSync(new URL('crates/dealer/stdin', root));
+    const { value, arrays, seeds, words } = printedDeal();
+    assert.deepEqual([...stored], [2, 6, 4, 1, 4, ...value, ...arrays, ...seeds, ...words]);
+    assert.deepEqual(Buffer.from(keys), readFileSync(new URL('crates/dealer/stdout', root)));
+    assert.deepEqual(keysApart(nosingginger, keys).map((key) => nosingginger.checkKey(key)),
+        [0, 1].map((player) => ({ players: 2, player, positions: 6, width: 4, valueBytes: 1 })));
+});
+
+test('deal: refusals, lent output, lent output that is longer', () => {
+    const exact = filled(158);
+    const given = printedDeal();
+    refused(1, () => nosingginger.deal({ ...given, players: 7, positions: 0 }, exact), exact);
+    refused(2, () => nosingginger.deal({ ...given, positions: 0 }, exact), exact);
+    refused(3, () => nosingginger.deal({ ...given, width: 257 }, exact), exact);
+    refused(4, () => nosingginger.deal({ ...given, valueBytes: 0 }, exact), exact);
+    refused(5, () => nosingginger.deal({ ...given, positions: 257, width: 1 }, exact), exact);
+    refused(6, () => nosingginger.deal({ ...given, point: 6 }, exact), exact);
+    refused(7, () => nosingginger.deal({ ...given, value: new Uint8Array(2) }, exact), exact);
+    refused(7, () => nosingginger.deal({ ...given, seeds: new Uint8Array(127) }, exact), exact);
+    refused(8, () => nosingginger.deal({ ...given, arrays: Uint8Array.of(0, 3, 2, 2) }, exact), exact);
+    refused(8, () => nosingginger.deal({ ...given, arrays: Uint8Array.of(0, 3, 0, 3) }, exact), exact);
+    refused(8, () => nosingginger.deal({ ...given, arrays: Uint8Array.of(0, 7, 1, 2) }, exact), exact);
+    const short = filled(157);
+    refused(9, () => nosingginger.deal(given, short), short);
+    refused(6, () => nosingginger.deal({ ...given, point: 6 }));
+    const longer = filled(200);
+    const keys = nosingginger.deal(given, longer);
+    assert.equal(keys.buffer, longer.buffer);
+    assert.deepEqual(keys, nosingginger.deal(given));
+    assert.deepEqual(longer.subarray(158), filled(42));
+});
+
+test('check key, open one, open all: refusals and lent output', () => {
+    const keys = nosingginger.deal(spring(4));
+    const [key] = keysApart(nosingginger, keys);
+    const changed = (place, byte) => Uint8Array.from(key, (own, index) => (index === place ? byte : own));
+    const wrong = [
+        [10, new Uint8Array(0)], [10, Uint8Array.of(4, 0, 0xC8, 0)], [10, Uint8Array.of(4, 0, 0xFF, 0xFF, 0xFF, 0)], [1, changed(0, 7)],
+        [2, changed(2, 0)], [3, changed(3, 0)], [4, changed(4, 17)], [5, Uint8Array.of(4, 0, 0x81, 0x02, 1, 1)], [11, changed(1, 4)],
+        [12, Uint8Array.of(4, 0, 72, 24, 1)], [12, key.subarray(0, 583)], [12, Uint8Array.from([...key, 0])], [13, changed(5, key[5] ^ 1)],
+    ];
+    for (const [number, damaged] of wrong) {
+        const lent = filled(100);
+        refused(number, () => nosingginger.checkKey(damaged));
+        refused(number, () => nosingginger.openOne(damaged, 72, lent), lent);
+        refused(number, () => nosingginger.openOne(damaged, 0));
+        refused(number, () => nosingginger.openAll(damaged, lent), lent);
+        refused(number, () => nosingginger.openAll(damaged));
+        assert.equal(nosingginger.heldSeed(damaged, 0, 0).length, 0);
+    }
+    const none = filled(0);
+    refused(14, () => nosingginger.openOne(key, 72, none), none);
+    refused(9, () => nosingginger.openOne(key, 71, none), none);
+    const short = filled(71);
+    refused(9, () => nosingginger.openAll(key, short), short);
+    const longer = filled(80);
+    const table = nosingginger.openAll(key, longer);
+    assert.equal(table.length, 72);
+    assert.deepEqual(longer.subarray(72), filled(8));
+    assert.deepEqual(nosingginger.openAll(key), table);
+    for (let position = 0; position < 72; position += 1) {
+        assert.deepEqual(nosingginger.openOne(key, position), table.subarray(position, position + 1));
+        const wide = filled(3);
+        assert.deepEqual([...nosingginger.openOne(key, position, wide)], [table[position]]);
+        assert.deepEqual([...wide], [table[position], FILL, FILL]);
+    }
+});
+
+test('join shares', () => {
+    const shares = Uint8Array.of(1, 2, 4, 8, 16, 32);
+    assert.deepEqual([...nosingginger.joinShares({ players: 3, valueBytes: 2, shares })], [21, 42]);
+    assert.deepEqual([...nosingginger.joinShares({ players: 6, valueBytes: 1, shares }, filled(3))], [63]);
+    const lent = filled(2);
+    refused(1, () => nosingginger.joinShares({ players: 7, valueBytes: 0, shares }, lent), lent);
+    refused(4, () => nosingginger.joinShares({ players: 3, valueBytes: 17, shares }, lent), lent);
+    refused(4, () => nosingginger.joinShares({ players: 3, valueBytes: 0xFFFFFFFF, shares }));
+    refused(7, () => nosingginger.joinShares({ players: 3, valueBytes: 1, shares }, lent), lent);
+    const short = filled(1);
+    refused(9, () => nosingginger.joinShares({ players: 3, valueBytes: 2, shares }, short), short);
+});
+
+test('join keys: every number of players, refusals and lent output', () => {
+    for (const players of [2, 3, 4, 5, 6]) {
+        const dealing = spring(players);
+        const keys = nosingginger.deal(dealing);
+        const table = nosingginger.joinKeys(keys);
+        assert.deepEqual([...table], Array.from({ length: 72 }, (_, position) => (position === dealing.point ? dealing.value[0] : 0)));
+        const longer = filled(75);
+        assert.deepEqual(nosingginger.joinKeys(keys, longer), table);
+        assert.deepEqual(longer.subarray(72), filled(3));
+        const short = filled(71);
+        refused(9, () => nosingginger.joinKeys(keys, short), short);
+        const apart = keysApart(nosingginger, keys);
+        const swapped = Uint8Array.from([...apart].reverse().flatMap((key) => [...key]));
+        const lent = filled(72);
+        refused(15, () => nosingginger.joinKeys(swapped, lent), lent);
+        refused(15, () => nosingginger.joinKeys(swapped));
+        refused(12, () => nosingginger.joinKeys(keys.subarray(0, keys.length - 1), lent), lent);
+        refused(10, () => nosingginger.joinKeys(new Uint8Array(0), lent), lent);
+        const later = keys.slice();
+        later[apart[0].length + 5] ^= 1;
+        refused(13, () => nosingginger.joinKeys(later, lent), lent);
+        later[apart[0].length + 1] = players;
+        refused(11, () => nosingginger.joinKeys(later, lent), lent);
+    }
+});
+
+test('held seed is a part of the key itself', () => {
+    const dealing = spring(5);
+    const keys = nosingginger.deal(dealing);
+    const columns = 16;
+    keysApart(nosingginger, keys).forEach((key, player) => {
+        for (let gridRow = 0; gridRow < Math.ceil(72 / dealing.width); gridRow += 1) {
+            for (let column = 0; column < columns; column += 1) {
+                const place = gridRow * columns + column;
+                const part = nosingginger.heldSeed(key, gridRow, column);
+                const marked = (dealing.arrays[place] >> player) % 2 === 1;
+                assert.deepEqual(part, marked ? dealing.seeds.subarray(place * 32, place * 32 + 32) : new Uint8Array(0));
+                assert.equal(part.buffer, key.buffer);
+            }
+        }
+        assert.equal(nosingginger.heldSeed(key, 0, columns).length, 0);
+        assert.equal(nosingginger.heldSeed(key, 0xFFFFFFFF, 0xFFFFFFFF).length, 0);
+        assert.equal(nosingginger.heldSeed(key, Math.ceil(72 / dealing.width), 0).length, 0);
+    });
+});
+
+test('numbers that 32 bits cannot hold and things that are no bytes are the caller\u2019s error', () => {
+    for (const players of [-1, 2.5, 2 ** 32, 2 ** 32 + 2, NaN, '2', 2n, undefined]) {
+        assert.throws(() => nosingginger.keyLength({ players, positions: 72, width: 24, valueBytes: 1 }), RangeError);
+    }
+    for (const key of [undefined, [1, 2], new ArrayBuffer(4), new Uint16Array(4), 'key']) {
+        assert.throws(() => nosingginger.checkKey(key), TypeError);
+        assert.throws(() => nosingginger.openAll(key, filled(3)), TypeError);
+    }
+    assert.throws(() => nosingginger.expand(new Uint8Array(32)), TypeError);
+});
+
+test('lent bytes may be part of a longer array, and may be the output too', () => {
+    const keys = nosingginger.deal(printedDeal());
+    const longer = Uint8Array.from([9, 9, 9, ...keys, 9]);
+    assert.deepEqual(nosingginger.joinKeys(longer.subarray(3, 161)), nosingginger.joinKeys(keys));
+    const seed = filled(32);
+    const expanded = nosingginger.expand(seed, filled(32));
+    assert.deepEqual(nosingginger.expand(seed, seed), expanded);
+});
+
+test('the largest table, and the memory grows to it and holds nothing afterwards', async () => {
+    const module = new WebAssembly.Module(moduleBytes);
+    const instance = new WebAssembly.Instance(module);
+    const { memory } = instance.exports;
+    const own = new Nosingginger(instance);
+    const start = memory.buffer.byteLength;
+    assert.equal(own.sensorPosition(8), 15);
+    const board = { players: 6, positions: 65536, width: 256, valueBytes: 16 };
+    const dealing = randomDealing(board, sameEachTime(16));
+    const keys = own.deal(dealing);
+    assert.equal(keys.length, 6 * 263176);
+    const afterDeal = memory.buffer.byteLength;
+    assert.ok(afterDeal > start + keys.length);
+    const table = own.joinKeys(keys);
+    assert.equal(table.length, 1048576);
+    const found = table.subarray(dealing.point * 16, dealing.point * 16 + 16);
+    assert.deepEqual(found, dealing.value);
+    table.fill(0, dealing.point * 16, dealing.point * 16 + 16);
+    assert.ok(table.every((byte) => byte === 0));
+    const [key] = keysApart(nosingginger, keys);
+    assert.deepEqual(own.openOne(key, 65535), own.openAll(key).subarray(1048560));
+    assert.ok(new Uint8Array(memory.buffer, start).every((byte) => byte === 0));
+    const grown = memory.buffer.byteLength;
+    for (let times = 0; times < 20; times += 1) assert.equal(own.checkKey(key).positions, 65536);
+    assert.equal(memory.buffer.byteLength, grown);
+});
+
+// The operations of reference/FORMAT.md by number: each takes the numbers in, the inputs and the lent output, and answers numbers out and bytes.
+const boardOf = ([players, positions, width, valueBytes]) => ({ players, positions, width, valueBytes });
+const OPERATIONS = {
+    1: (numbers) => [[nosingginger.keyLength(boardOf(numbers))]],
+    2: (numbers, [value, arrays, seeds, words], out) =>
+        [[], nosingginger.deal({ ...boardOf(numbers), point: numbers[4], value, arrays, seeds, words }, out)],
+    3: (_, [key]) => {
+        const { players, player, positions, width, valueBytes } = nosingginger.checkKey(key);
+        return [[players, player, positions, width, valueBytes]];
+    },
+    4: ([position], [key], out) => [[], nosingginger.openOne(key, position, out)],
+    5: (_, [key], out) => [[], nosingginger.openAll(key, out)],
+    6: ([players, valueBytes], [shares], out) => [[], nosingginger.joinShares({ players, valueBytes, shares }, out)],
+    7: (_, [keys], out) => [[], nosingginger.joinKeys(keys, out)],
+    8: ([gridRow, column], [key]) => {
+        const part = nosingginger.heldSeed(key, gridRow, column);
+        return [[part.length === 0 ? 0 : part.byteOffset - key.byteOffset], part];
+    },
+    9: (_, [seed], out) => [[], nosingginger.expand(seed, out)],
+    10: ([players, positions]) => [[nosingginger.chooseWidth({ players, positions })]],
+    11: ([sensor]) => [[nosingginger.sensorPosition(sensor)]],
+};
+
+test('the second implementation\u2019s answers, all cases of the eleven operations', () => {
+    const file = readFileSync(new URL('crates/compare/data/cases.bin', root));
+    assert.equal(file.toString('latin1', 0, 8), 'NGCASES1');
+    const bytes = new Uint8Array(file);
+    const view = new DataView(bytes.buffer);
+    const numbersAt = (place, many) => Array.from({ length: many }, (_, index) => view.getUint32(place + 4 * index, true));
+    const [cases, , , length] = numbersAt(8, 4);
+    assert.equal(length, bytes.length);
+    const tried = new Map();
+    let at = 24;
+    let inputs = [];
+    for (let place = 0; place < cases; place += 1) {
+        const [operation, number, fill, kept] = bytes.subarray(at, at + 4);
+        const [into, outOf] = [numbersAt(at + 4, 5), numbersAt(at + 24, 5)];
+        const lengths = numbersAt(at + 44, 4);
+        const [lentBytes, answerBytes] = numbersAt(at + 60, 2);
+        at += 68;
+        if (!kept) {
+            inputs = lengths.map((long) => bytes.subarray(at, at += long));
+        }
+        const answer = bytes.subarray(at, at += answerBytes);
+        if (!(operation in OPERATIONS)) continue;
+        const lent = new Uint8Array(lentBytes).fill(fill);
+        if (number === 0) {
+            const [numbers, written = new Uint8Array(0)] = OPERATIONS[operation](into, inputs, lent);
+            assert.deepEqual([...numbers, 0, 0, 0, 0, 0].slice(0, 5), outOf, `numbers of case ${place}`);
+            assert.ok(Buffer.from(written).equals(answer), `bytes of case ${place}`);
+            const left = (index) => (operation !== 8 && index < answer.length ? answer[index] : fill);
+            assert.ok(lent.every((byte, index) => byte === left(index)), `output of case ${place}`);
+        } else {
+            refused(number, () => OPERATIONS[operation](into, inputs, lent), lent);
+        }
+        tried.set(operation, (tried.get(operation) ?? new Set()).add(number));
+    }
+    assert.equal(at, length);
+    assert.deepEqual([...tried.keys()].sort((a, b) => a - b), Object.keys(OPERATIONS).map(Number));
+    const numbers = new Set([...tried.values()].flatMap((set) => [...set]));
+    assert.deepEqual([...numbers].sort((a, b) => a - b), Array.from({ length: 18 }, (_, number) => number));
+});
+
+test('hexadecimal text is read as anybody writes it', () => {
+    const bytes = Uint8Array.of(2, 0, 0xA5, 0xFF);
+    for (const text of ['0200A5FF', '02 00 a5 ff', '0x02, 0x00, 0xA5, 0xff', '02:00:A5:FF', '0200\nA5FF\n', '\t0200a5 FF\r\n']) {
+        assert.deepEqual(bytesOfHexadecimal(text), bytes);
+    }
+    assert.equal(hexadecimal(bytes), '0200A5FF');
+    for (const text of ['0200A5F', 'xyz', '02-00', 'A5h', '\u0661\u0662']) assert.throws(() => bytesOfHexadecimal(text), Unreadable);
+});
+
+test('keys are found in text and in files', () => {
+    for (const players of [2, 3, 4, 5, 6]) {
+        const all = nosingginger.deal(spring(players));
+        const keys = keysApart(nosingginger, all);
+        assert.equal(keys.length, players);
+        const texts = [keys.map(hexadecimal).join('\n'), keys.map(hexadecimal).join('\n\n'), hexadecimal(all),
+            hexadecimal(all).replace(/.{60}/g, '$&\n'), keys.map((key) => hexadecimal(key).replace(/.{32}/g, '$&\r\n')).join('\r\n\r\n')];
+        for (const text of texts) {
+            assert.deepEqual(keysOfText(nosingginger, text), keys);
+            assert.deepEqual(keysOfFile(nosingginger, new TextEncoder().encode(text)), keys);
+        }
+        assert.deepEqual(keysOfFile(nosingginger, all), keys);
+        assert.deepEqual(keysOfFile(nosingginger, keys[1]), [keys[1]]);
+        // A damaged key among good ones is cut from them all the same, and stands alone when it is alone.
+        for (const place of [0, 2, 5]) {
+            const damaged = all.slice();
+            damaged[place] ^= 0x80;
+            assert.equal(keysOfFile(nosingginger, damaged).length, players);
+            assert.deepEqual(keysOfText(nosingginger, hexadecimal(damaged.subarray(0, keys[0].length)).replace(/.{60}/g, '$&\n')),
+                [damaged.subarray(0, keys[0].length)]);
+        }
+        const both = keys.slice(0, 2).map((key) => key.map((byte, at) => (at === 5 ? byte ^ 1 : byte)));
+        assert.deepEqual(keysOfText(nosingginger, both.map(hexadecimal).join('\n')), both);
+    }
+    assert.deepEqual(keysOfFile(nosingginger, new Uint8Array(0)), [new Uint8Array(0)]);
+    assert.deepEqual(keysOfText(nosingginger, ' \n\n '), []);
+});
+
+test('a match is examined: accepted, awaited, refused, in the wrong order, of two boards', () => {
+    const dealing = spring(4);
+    const keys = keysApart(nosingginger, nosingginger.deal(dealing));
+    const whole = examine(nosingginger, keys);
+    assert.deepEqual([whole.refusal, whole.about, whole.missing], [null, null, []]);
+    assert.deepEqual(marked(whole.joined, whole.board), [dealing.point]);
+    assert.deepEqual(whole.joined, joinTables(nosingginger, keys.map((key) => nosingginger.openAll(key))));
+    assert.deepEqual(examine(nosingginger, []), { checked: [], board: null, missing: [], joined: null, refusal: null, about: null });
+    assert.deepEqual(examine(nosingginger, [keys[2], keys[0]]).missing, [1, 3]);
+    const swapped = examine(nosingginger, [keys[0], keys[2], keys[1], keys[3]]);
+    assert.deepEqual([swapped.joined, swapped.refusal.number, swapped.about], [null, 15, 1]);
+    const twice = examine(nosingginger, [keys[0], keys[0]]);
+    assert.deepEqual([twice.joined, twice.refusal.number, twice.about], [null, 12, null]);
+    const tooMany = examine(nosingginger, [...keys, keys[0]]);
+    assert.deepEqual([tooMany.joined, tooMany.refusal.number, tooMany.about], [null, 12, null]);
+    const damaged = examine(nosingginger, [keys[0], keys[1].subarray(1), keys[2], keys[3]]);
+    assert.deepEqual([damaged.joined, damaged.refusal], [null, null]);
+    assert.deepEqual(damaged.checked.map(({ refusal }) => refusal === null), [true, false, true, true]);
+});
+
+test('a drawn dealing is accepted, on every kind of board', () => {
+    for (const [players, positions, width, valueBytes] of [[2, 1, 1, 1], [3, 7, 3, 16], [6, 5, 9, 5], [4, 72, 24, 1], [2, 256, 1, 2]]) {
+        const dealing = randomDealing({ players, positions, width, valueBytes }, sameEachTime(positions));
+        const table = nosingginger.joinKeys(nosingginger.deal(dealing));
+        assert.deepEqual(marked(table, dealing), [dealing.point]);
+        assert.ok(table.length === positions * valueBytes);
+    }
+});
