@@ -2,3 +2,4 @@ pub mod Words
 pub mod Rounds
 pub mod Parts
 pub mod Stream
+pub mod Together

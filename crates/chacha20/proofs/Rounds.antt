@@ -1,25 +1,16 @@
--- The rounds of the block function as the code takes them, one step after another: four half steps are a quarter round, eight quarter
--- rounds by the table are a double round, and a turn of the loop leaves one double round less. Assumes nothing.
+-- The rounds of the block function as the code takes them, one step after another: four half steps are a quarter round, and a turn of the
+-- loop leaves one double round less. Assumes nothing.
 use mathlib.Core.Path.{_≡_}
-use mathlib.Core.List.{List, [], _∷_}
+use mathlib.Core.List.{List}
 use Prim.Native.Nat.{ℕ, suc, _+_, _-_, _<_, _≤_}
 use native.Mathlib.Omega.{arith}
-use Rattle.chacha20.specs.Expand.{at, mixed, quarter, double-round, rounds, sums, low-bytes}
-use Rattle.chacha20.specs.Rfc8439.{quarter-at, opening-state, chacha20-block}
+use Rattle.chacha20.specs.Expand.{mixed, quarter, double-round, rounds, sums, low-bytes}
+use Rattle.chacha20.specs.Rfc8439.{opening-state, chacha20-block}
 
 pub four-half-steps : (a b c d : ℕ) (s s₁ s₂ s₃ s₄ : List ℕ) → s₁ ≡ mixed a b d 16 s → s₂ ≡ mixed c d b 12 s₁ → s₃ ≡ mixed a b d 8 s₂ → s₄ ≡ mixed c d b 7 s₃ →
     s₄ ≡ quarter a b c d s
 unfolding quarter
 four-half-steps a b c d s s₁ s₂ s₃ s₄ p₁ p₂ p₃ p₄ = rw (p₄, p₃, p₂, p₁)
-
-pub eight-quarter-rounds : (s s₁ s₂ s₃ s₄ s₅ s₆ s₇ s₈ : List ℕ) →
-    s₁ ≡ quarter-at (0 ∷ 4 ∷ 8 ∷ 12 ∷ []) s → s₂ ≡ quarter-at (1 ∷ 5 ∷ 9 ∷ 13 ∷ []) s₁ →
-    s₃ ≡ quarter-at (2 ∷ 6 ∷ 10 ∷ 14 ∷ []) s₂ → s₄ ≡ quarter-at (3 ∷ 7 ∷ 11 ∷ 15 ∷ []) s₃ →
-    s₅ ≡ quarter-at (0 ∷ 5 ∷ 10 ∷ 15 ∷ []) s₄ → s₆ ≡ quarter-at (1 ∷ 6 ∷ 11 ∷ 12 ∷ []) s₅ →
-    s₇ ≡ quarter-at (2 ∷ 7 ∷ 8 ∷ 13 ∷ []) s₆ → s₈ ≡ quarter-at (3 ∷ 4 ∷ 9 ∷ 14 ∷ []) s₇ →
-    s₈ ≡ double-round s
-unfolding at quarter-at double-round
-eight-quarter-rounds s s₁ s₂ s₃ s₄ s₅ s₆ s₇ s₈ p₁ p₂ p₃ p₄ p₅ p₆ p₇ p₈ = rw (p₈, p₇, p₆, p₅, p₄, p₃, p₂, p₁)
 
 -- a turn of the loop over double rounds
 pub one-round-less : (done : ℕ) (s next s₀ : List ℕ) → done < 10 → rounds (10 - done) s ≡ rounds 10 s₀ → next ≡ double-round s → rounds (10 - (done + 1)) next ≡ rounds 10 s₀

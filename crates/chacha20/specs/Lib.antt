@@ -1,2 +1,3 @@
 pub mod Expand
 pub mod Rfc8439
+pub mod Lines

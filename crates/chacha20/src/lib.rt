@@ -1,12 +1,14 @@
 // ChaCha20 by RFC 8439, to be held beside it: section 2.1's quarter round, 2.3's double round and block function, 2.4's key stream,
 // under the RFC's names and in its order. Document 01's rows are the key stream with the seed as key, the nonce twelve zeros and the
-// block counter from 0: crate rows makes them. The meanings stand in specs/Expand.antt and specs/Rfc8439.antt. Assumes nothing.
+// block counter from 0: crate rows makes them. The meanings stand in specs/Expand.antt and specs/Rfc8439.antt, and specs/Lines.antt has the
+// lines that are stepped together for speed. Assumes nothing.
 ghost use mathlib.Core.Path.{_≡_};
 ghost use Prim.Native.Nat.{_+_, _/_, _^_, _<_, _≤_};
 ghost use mathlib.Core.List.{[], _∷_};
 ghost use lib.ListN.{length, take};
 ghost use Rattle.chacha20.specs.Expand.{turned, xor-word, mixed, double-round, rounds, word-at, sums, low-bytes};
 ghost use Rattle.chacha20.specs.Rfc8439.{Places, quarter-at, opening-state, chacha20-block, key-stream};
+ghost use Rattle.chacha20.specs.Lines.{odd-lines, even-lines, Lines};
 
 // 2.3: the quarter rounds of a double round, each by its four places in the state: a column round, then a diagonal round.
 pub const QUARTER_ROUNDS: [[usize; 4]; 8] = [
@@ -30,7 +32,7 @@ fn xor_roll(word: u32, sum: u32, roll: u32) -> u32
 }
 
 // 2.1, one of the four lines: a += b; d ^= a; d <<<= roll
-pub fn half_step(state: [u32; 16], a: usize, b: usize, d: usize, roll: u32) -> [u32; 16]
+fn half_step(state: [u32; 16], a: usize, b: usize, d: usize, roll: u32) -> [u32; 16]
     requires { ⌜ (a < 16) × (b < 16) × (d < 16) × (0 < roll) × (roll < 32) ⌝ }
     ensures { λ r. ⌜ r ≡ mixed a b d roll state ⌝ }
 {
@@ -57,19 +59,88 @@ pub fn quarter_round(state: [u32; 16], places: [usize; 4]) -> [u32; 16]
     half_step(third, c, d, b, 7)
 }
 
-// 2.3: a column round, then a diagonal round
+// 2.1: the first line of four quarter rounds, or the third
+pub fn odd_lines(
+    state: [u32; 16],
+    p: [usize; 4],
+    q: [usize; 4],
+    r: [usize; 4],
+    s: [usize; 4],
+    roll: u32,
+) -> [u32; 16]
+    requires { ⌜ Lines p q r s roll ⌝ }
+    ensures { λ next. ⌜ next ≡ odd-lines p q r s roll state ⌝ }
+{
+    let first = half_step(state, p[0], p[1], p[3], roll);
+    let second = half_step(first, q[0], q[1], q[3], roll);
+    let third = half_step(second, r[0], r[1], r[3], roll);
+    half_step(third, s[0], s[1], s[3], roll)
+}
+
+// 2.1: the second line of four quarter rounds, or the last
+pub fn even_lines(
+    state: [u32; 16],
+    p: [usize; 4],
+    q: [usize; 4],
+    r: [usize; 4],
+    s: [usize; 4],
+    roll: u32,
+) -> [u32; 16]
+    requires { ⌜ Lines p q r s roll ⌝ }
+    ensures { λ next. ⌜ next ≡ even-lines p q r s roll state ⌝ }
+{
+    let first = half_step(state, p[2], p[3], p[1], roll);
+    let second = half_step(first, q[2], q[3], q[1], roll);
+    let third = half_step(second, r[2], r[3], r[1], roll);
+    half_step(third, s[2], s[3], s[1], roll)
+}
+
+// 2.3: a column round, then a diagonal round; the four quarter rounds of each line by line together, so that neighbouring lines do not wait
+// for each other
 fn double_round(state: [u32; 16]) -> [u32; 16]
     ensures { λ r. ⌜ r ≡ double-round state ⌝ }
 {
     let table = QUARTER_ROUNDS;
-    let first = quarter_round(state, table[0]);
-    let second = quarter_round(first, table[1]);
-    let third = quarter_round(second, table[2]);
-    let fourth = quarter_round(third, table[3]);
-    let fifth = quarter_round(fourth, table[4]);
-    let sixth = quarter_round(fifth, table[5]);
-    let seventh = quarter_round(sixth, table[6]);
-    quarter_round(seventh, table[7])
+    let a = table[0];
+    let b = table[1];
+    let c = table[2];
+    let d = table[3];
+    let first = odd_lines(state, a, b, c, d, 16);
+    let second = even_lines(first, a, b, c, d, 12);
+    let third = odd_lines(second, a, b, c, d, 8);
+    let fourth = even_lines(third, a, b, c, d, 7);
+    let e = table[4];
+    let f = table[5];
+    let g = table[6];
+    let h = table[7];
+    let fifth = odd_lines(fourth, e, f, g, h, 16);
+    let sixth = even_lines(fifth, e, f, g, h, 12);
+    let seventh = odd_lines(sixth, e, f, g, h, 8);
+    even_lines(seventh, e, f, g, h, 7)
+}
+
+// The same state, made anew of its words: so the compiler keeps each word in a register of its own.
+fn word_by_word(state: [u32; 16]) -> [u32; 16]
+    ensures { λ r. ⌜ r ≡ state ⌝ }
+{
+    [
+        state[0],
+        state[1],
+        state[2],
+        state[3],
+        state[4],
+        state[5],
+        state[6],
+        state[7],
+        state[8],
+        state[9],
+        state[10],
+        state[11],
+        state[12],
+        state[13],
+        state[14],
+        state[15],
+    ]
 }
 
 // 2.3: twenty rounds
@@ -79,7 +150,8 @@ fn twenty_rounds(initial: [u32; 16]) -> [u32; 16]
     let mut state = initial;
     let mut done: usize = 0;
     while done < 10 {
-        let next = double_round(state);
+        let stepped = double_round(state);
+        let next = word_by_word(stepped);
         state = next;
         done += 1;
     }

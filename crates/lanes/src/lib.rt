@@ -5,7 +5,7 @@ ghost use mathlib.Core.Path.{_≡_};
 ghost use Prim.Native.Nat.{_+_, _*_, _^_, _<_};
 ghost use lib.ListN.{length, take, drop};
 ghost use Rattle.chacha20.specs.Expand.{double-round, rounds, opening, blocks};
-ghost use Rattle.lanes.specs.Lanes.{odd-lines, even-lines, Lines, lane-of, Side-by-side, Put, lanes-bytes, lanes-blocks, first-blocks};
+ghost use Rattle.lanes.specs.Lanes.{lane-of, Side-by-side, Put, lanes-bytes, lanes-blocks, first-blocks};
 
 // A lane's state.
 fn lane(states: &[u32], l: usize) -> [u32; 16]
@@ -35,44 +35,7 @@ fn put_lane(states: &mut [u32], l: usize, words: [u32; 16])
     }
 }
 
-// RFC 8439, 2.1: the first line of four quarter rounds, or the third.
-fn odd_lines(
-    state: [u32; 16],
-    p: [usize; 4],
-    q: [usize; 4],
-    r: [usize; 4],
-    s: [usize; 4],
-    roll: u32,
-) -> [u32; 16]
-    requires { ⌜ Lines p q r s roll ⌝ }
-    ensures { λ next. ⌜ next ≡ odd-lines p q r s roll state ⌝ }
-{
-    let first = chacha20::half_step(state, p[0], p[1], p[3], roll);
-    let second = chacha20::half_step(first, q[0], q[1], q[3], roll);
-    let third = chacha20::half_step(second, r[0], r[1], r[3], roll);
-    chacha20::half_step(third, s[0], s[1], s[3], roll)
-}
-
-// The second line of four quarter rounds, or the last.
-fn even_lines(
-    state: [u32; 16],
-    p: [usize; 4],
-    q: [usize; 4],
-    r: [usize; 4],
-    s: [usize; 4],
-    roll: u32,
-) -> [u32; 16]
-    requires { ⌜ Lines p q r s roll ⌝ }
-    ensures { λ next. ⌜ next ≡ even-lines p q r s roll state ⌝ }
-{
-    let first = chacha20::half_step(state, p[2], p[3], p[1], roll);
-    let second = chacha20::half_step(first, q[2], q[3], q[1], roll);
-    let third = chacha20::half_step(second, r[2], r[3], r[1], roll);
-    chacha20::half_step(third, s[2], s[3], s[1], roll)
-}
-
-// A double round of one lane at the places of chacha20's table: the four columns line by line together, then the four diagonals, so that
-// neighbouring lines do not wait for each other.
+// A double round of one lane, as the scalar block has it. Each has a double round of its own, with one caller, in which the compiler unfolds it.
 fn double_round(state: [u32; 16]) -> [u32; 16]
     ensures { λ r. ⌜ r ≡ double-round state ⌝ }
 {
@@ -81,18 +44,18 @@ fn double_round(state: [u32; 16]) -> [u32; 16]
     let b = table[1];
     let c = table[2];
     let d = table[3];
-    let first = odd_lines(state, a, b, c, d, 16);
-    let second = even_lines(first, a, b, c, d, 12);
-    let third = odd_lines(second, a, b, c, d, 8);
-    let fourth = even_lines(third, a, b, c, d, 7);
+    let first = chacha20::odd_lines(state, a, b, c, d, 16);
+    let second = chacha20::even_lines(first, a, b, c, d, 12);
+    let third = chacha20::odd_lines(second, a, b, c, d, 8);
+    let fourth = chacha20::even_lines(third, a, b, c, d, 7);
     let e = table[4];
     let f = table[5];
     let g = table[6];
     let h = table[7];
-    let fifth = odd_lines(fourth, e, f, g, h, 16);
-    let sixth = even_lines(fifth, e, f, g, h, 12);
-    let seventh = odd_lines(sixth, e, f, g, h, 8);
-    even_lines(seventh, e, f, g, h, 7)
+    let fifth = chacha20::odd_lines(fourth, e, f, g, h, 16);
+    let sixth = chacha20::even_lines(fifth, e, f, g, h, 12);
+    let seventh = chacha20::odd_lines(sixth, e, f, g, h, 8);
+    chacha20::even_lines(seventh, e, f, g, h, 7)
 }
 
 // A double round of each lane.

@@ -1,11 +1,11 @@
 -- Four rows of at most a block each, from the first blocks of four seeds, and the seeds taken by fours. Assumes nothing.
-use mathlib.Core.Path.{_≡_, refl, sym, ap, _∙_, subst}
+use mathlib.Core.Path.{_≡_, sym, ap, _∙_}
 use mathlib.Core.List.{List, _++_}
 use Prim.Native.Nat.{ℕ, zero, suc, _+_, _*_, _-_, _/_, _<_, _≤_}
 use native.Mathlib.Omega.{arith}
 use native.Mathlib.Nat.{not-suc-le-zero}
 use lib.ListN.{length, take, drop, length-drop}
-use lib.Seq.{take-at, take-take, take-all, drop-at, drop-drop, length-take-le}
+use lib.Seq.{take-at, take-all, drop-at, drop-drop, length-take-le}
 use Rattle.xor.specs.Xor.{xors, zeros}
 use Rattle.xor.proofs.Laws.{xors-assoc}
 use Rattle.chacha20.specs.Expand.{block, expand}

@@ -12,9 +12,10 @@ ghost use Rattle.rows.specs.Rows.{rows-joined, Next-end};
 // Bytes of a seed.
 const SEED_BYTES: usize = 32;
 
-// Bytes of a block of the key stream, and of four.
+// Bytes of a block of the key stream.
 const BLOCK_BYTES: usize = 64;
 
+// Bytes of four blocks.
 const FOUR_BLOCKS_BYTES: usize = 256;
 
 // XORs the first bytes of `blocks` into `out`, as many as it has.

@@ -1,86 +1,79 @@
--- `chacha20::double_round` meets its contract. Eight quarter rounds at the table's places. Assumes nothing.
+-- `chacha20::double_round` meets its contract. Eight lines at the table's places. Assumes nothing.
 use borrow.Author.Needs.{needs}
-use Rattle.chacha20.proofs.Rounds.{eight-quarter-rounds}
+use native.Mathlib.Omega.{arith}
+use Rattle.chacha20.proofs.Together.{eight-lines}
 use Rattle.chacha20.proofs.double_round.Statement.{statement}
 use Rattle.chacha20.proofs.double_round.Tie as tie
 
-array-copy-out-quarter-round : tie.Need-array-copy-out-quarter-round
-array-copy-out-quarter-round c = search needs
+array-copy-out-a : tie.Need-array-copy-out-a
+array-copy-out-a c = search needs
 
-quarter-round-requires : tie.Need-quarter-round-requires
-quarter-round-requires c κs = search needs
+array-copy-out-b : tie.Need-array-copy-out-b
+array-copy-out-b c = search needs
 
-array-copy-out-quarter-round-2 : tie.Need-array-copy-out-quarter-round-2
-array-copy-out-quarter-round-2 c = search needs
+array-copy-out-c : tie.Need-array-copy-out-c
+array-copy-out-c c = search needs
 
-quarter-round-requires-2 : tie.Need-quarter-round-requires-2
-quarter-round-requires-2 c κs = search needs
+array-copy-out-d : tie.Need-array-copy-out-d
+array-copy-out-d c = search needs
 
-array-copy-out-quarter-round-3 : tie.Need-array-copy-out-quarter-round-3
-array-copy-out-quarter-round-3 c = search needs
+odd-lines-requires : tie.Need-odd-lines-requires
+odd-lines-requires c κs = search needs
 
-quarter-round-requires-3 : tie.Need-quarter-round-requires-3
-quarter-round-requires-3 c κs = search needs
+even-lines-requires : tie.Need-even-lines-requires
+even-lines-requires c κs = search needs
 
-array-copy-out-quarter-round-4 : tie.Need-array-copy-out-quarter-round-4
-array-copy-out-quarter-round-4 c = search needs
+odd-lines-requires-2 : tie.Need-odd-lines-requires-2
+odd-lines-requires-2 c κs = search needs
 
-quarter-round-requires-4 : tie.Need-quarter-round-requires-4
-quarter-round-requires-4 c κs = search needs
+even-lines-requires-2 : tie.Need-even-lines-requires-2
+even-lines-requires-2 c κs = search needs
 
-array-copy-out-quarter-round-5 : tie.Need-array-copy-out-quarter-round-5
-array-copy-out-quarter-round-5 c = search needs
+array-copy-out-e : tie.Need-array-copy-out-e
+array-copy-out-e c = search needs
 
-quarter-round-requires-5 : tie.Need-quarter-round-requires-5
-quarter-round-requires-5 c κs = search needs
+array-copy-out-f : tie.Need-array-copy-out-f
+array-copy-out-f c = search needs
 
-array-copy-out-quarter-round-6 : tie.Need-array-copy-out-quarter-round-6
-array-copy-out-quarter-round-6 c = search needs
+array-copy-out-g : tie.Need-array-copy-out-g
+array-copy-out-g c = search needs
 
-quarter-round-requires-6 : tie.Need-quarter-round-requires-6
-quarter-round-requires-6 c κs = search needs
+array-copy-out-h : tie.Need-array-copy-out-h
+array-copy-out-h c = search needs
 
-array-copy-out-quarter-round-7 : tie.Need-array-copy-out-quarter-round-7
-array-copy-out-quarter-round-7 c = search needs
+odd-lines-requires-3 : tie.Need-odd-lines-requires-3
+odd-lines-requires-3 c κs = search needs
 
-quarter-round-requires-7 : tie.Need-quarter-round-requires-7
-quarter-round-requires-7 c κs = search needs
+even-lines-requires-3 : tie.Need-even-lines-requires-3
+even-lines-requires-3 c κs = search needs
 
-array-copy-out-quarter-round-8 : tie.Need-array-copy-out-quarter-round-8
-array-copy-out-quarter-round-8 c = search needs
+odd-lines-requires-4 : tie.Need-odd-lines-requires-4
+odd-lines-requires-4 c κs = search needs
 
-quarter-round-requires-8 : tie.Need-quarter-round-requires-8
-quarter-round-requires-8 c κs = search needs
+even-lines-requires-4 : tie.Need-even-lines-requires-4
+even-lines-requires-4 c κs = search needs
 
 returns : tie.Need-returns
-returns c =
-    let seventh = c .before .before in
-    let sixth = seventh .before .before in
-    let fifth = sixth .before .before in
-    let fourth = fifth .before .before in
-    let third = fourth .before .before in
-    let second = third .before .before in
-    let first = second .before .before in
-    eight-quarter-rounds _ _ _ _ _ _ _ _ _ (first .quarter-round .ensures) (second .quarter-round2 .ensures) (third .quarter-round3 .ensures) (fourth .quarter-round4 .ensures) (fifth .quarter-round5 .ensures) (sixth .quarter-round6 .ensures) (seventh .quarter-round7 .ensures) (c .quarter-round8 .ensures)
+returns c = eight-lines (c .before .before .before .before .before .before .before .before .before .before .before .before .before .before .before .before .args .state) _ _ _ _ _ _ _ _ (omega (arith, c .before .before .before .before .before .before .before .before .before .before .before .before .before .before .before .before .good)) (c .before .before .before .before .before .before .before .before .before .before .before .odd-lines .ensures) (c .before .before .before .before .before .before .before .before .before .before .even-lines .ensures) (c .before .before .before .before .before .before .before .before .before .odd-lines2 .ensures) (c .before .before .before .before .before .before .before .before .even-lines2 .ensures) (c .before .before .before .odd-lines3 .ensures) (c .before .before .even-lines3 .ensures) (c .before .odd-lines4 .ensures) (c .even-lines4 .ensures)
 
 pub double-round-spec : {M : Type 1} → statement M
 double-round-spec =
     tie.close
     (tie.spec
-    array-copy-out-quarter-round
-    quarter-round-requires
-    array-copy-out-quarter-round-2
-    quarter-round-requires-2
-    array-copy-out-quarter-round-3
-    quarter-round-requires-3
-    array-copy-out-quarter-round-4
-    quarter-round-requires-4
-    array-copy-out-quarter-round-5
-    quarter-round-requires-5
-    array-copy-out-quarter-round-6
-    quarter-round-requires-6
-    array-copy-out-quarter-round-7
-    quarter-round-requires-7
-    array-copy-out-quarter-round-8
-    quarter-round-requires-8
+    array-copy-out-a
+    array-copy-out-b
+    array-copy-out-c
+    array-copy-out-d
+    odd-lines-requires
+    even-lines-requires
+    odd-lines-requires-2
+    even-lines-requires-2
+    array-copy-out-e
+    array-copy-out-f
+    array-copy-out-g
+    array-copy-out-h
+    odd-lines-requires-3
+    even-lines-requires-3
+    odd-lines-requires-4
+    even-lines-requires-4
     returns)

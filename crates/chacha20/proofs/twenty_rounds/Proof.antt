@@ -1,6 +1,6 @@
 -- `chacha20::twenty_rounds` meets its contract. The loop's invariant: the double rounds that are left lead to the end. Assumes nothing.
 use borrow.Author.Needs.{needs}
-use mathlib.Core.Path.{_≡_, refl}
+use mathlib.Core.Path.{_≡_, refl, _∙_}
 use Prim.Native.Nat.{_≤_, _-_}
 use native.Mathlib.Omega.{arith}
 use Rattle.chacha20.specs.Expand.{rounds}
@@ -20,6 +20,9 @@ loop-holds c = (omega arith, refl)
 double-round-requires : tie.Need-double-round-requires Inv-loop μ-loop
 double-round-requires c κs = search needs
 
+word-by-word-requires : tie.Need-word-by-word-requires Inv-loop μ-loop
+word-by-word-requires c κs = search needs
+
 add-done : tie.Need-add-done Inv-loop μ-loop
 add-done c = omega arith
 
@@ -27,12 +30,10 @@ loop-less : tie.Need-loop-less Inv-loop μ-loop
 loop-less c = omega arith
 
 loop-again : tie.Need-loop-again Inv-loop μ-loop
-loop-again c =
-    let l = c .before .before .loop in (omega arith, one-round-less (l .done) (l .state) _ _ (omega arith) (l .inv .1) (c .double-round .ensures))
+loop-again c = let l = c .before .before .before .loop in (omega arith, one-round-less (l .done) (l .state) _ _ (omega arith) (l .inv .1) (c .word-by-word .ensures ∙ c .before .double-round .ensures))
 
 returns : tie.Need-returns Inv-loop μ-loop
-returns c =
-    let l = c .before .loop in no-round-left (l .done) (l .state) _ (omega arith) (l .inv .1)
+returns c = let l = c .before .loop in no-round-left (l .done) (l .state) _ (omega arith) (l .inv .1)
 
 pub twenty-rounds-spec : {M : Type 1} → statement M
 twenty-rounds-spec =
@@ -42,6 +43,7 @@ twenty-rounds-spec =
     μ-loop
     loop-holds
     double-round-requires
+    word-by-word-requires
     add-done
     loop-less
     loop-again

@@ -1,7 +1,7 @@
 -- `lanes::double_round` meets its contract. Eight lines at the table's places. Assumes nothing.
 use borrow.Author.Needs.{needs}
 use native.Mathlib.Omega.{arith}
-use Rattle.lanes.proofs.Together.{eight-lines}
+use Rattle.chacha20.proofs.Together.{eight-lines}
 use Rattle.lanes.proofs.double_round.Statement.{statement}
 use Rattle.lanes.proofs.double_round.Tie as tie
 

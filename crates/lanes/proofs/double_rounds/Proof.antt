@@ -1,11 +1,10 @@
 -- `lanes::double_rounds` meets its contract. The loop's invariant: the lanes before l are a double round on, the others are as they were. Assumes nothing.
 use borrow.Author.Needs.{needs}
-use mathlib.Core.Path.{_≡_, sym, _∙_, ap}
+use mathlib.Core.Path.{sym, _∙_, ap}
 use mathlib.Core.List.{List}
 use Prim.Native.Nat.{ℕ, _≤_, _-_}
 use native.Mathlib.Omega.{arith}
 use native.Mathlib.Nat.{le-refl}
-use lib.ListN.{length}
 use denote.Ref.{now}
 use Rattle.chacha20.specs.Expand.{double-round}
 use Rattle.lanes.specs.Lanes.{lane-of}

@@ -1,8 +1,7 @@
 -- `lanes::put_lane` meets its contract. The loop's invariant: the words before w are put, and the other lanes are as they were. Assumes nothing.
-use mathlib.Core.Path.{_≡_, sym, _∙_}
+use mathlib.Core.Path.{sym, _∙_}
 use Prim.Native.Nat.{_≤_, _-_}
 use native.Mathlib.Omega.{arith}
-use lib.ListN.{length}
 use denote.Ref.{now}
 use Rattle.lanes.proofs.Places.{Putting, none-put, one-put, all-put}
 use Rattle.lanes.proofs.put_lane.Statement.{statement}

@@ -1,9 +1,7 @@
 -- `lanes::twenty_rounds` meets its contract. The loop's invariant: the double rounds that are left lead each lane to its end. Assumes nothing.
-use borrow.Author.Needs.{needs}
-use mathlib.Core.Path.{_≡_, refl, sym, _∙_}
+use mathlib.Core.Path.{refl, sym, _∙_}
 use Prim.Native.Nat.{_≤_, _-_}
 use native.Mathlib.Omega.{arith}
-use lib.ListN.{length}
 use denote.Ref.{now}
 use Rattle.lanes.proofs.Laid.{Going, one-going, all-gone}
 use Rattle.lanes.proofs.twenty_rounds.Statement.{statement}

@@ -1,6 +1,6 @@
 -- `rows::xor_row` meets its contract. The loop's invariant: the row is XORed in up to `done`, the rest is as it was lent. Assumes nothing.
-use mathlib.Core.Path.{_≡_, _∙_}
-use Prim.Native.Nat.{_+_, _-_}
+use mathlib.Core.Path.{_∙_}
+use Prim.Native.Nat.{_-_}
 use native.Mathlib.Omega.{arith}
 use lib.ListN.{length}
 use denote.Ref.{now}

@@ -1,17 +1,17 @@
 -- Four quarter rounds line by line together are the four one after another: they touch different words. Shown on a state written out word by
 -- word, on which both compute to the same. Assumes nothing.
-use mathlib.Core.Path.{_≡_, refl, sym, ap, _∙_, subst}
+use mathlib.Core.Path.{_≡_, refl, sym, subst}
 use mathlib.Core.List.{List, [], _∷_}
 use Prim.Native.Nat.{ℕ, zero, suc, _+_}
 use native.Mathlib.Omega.{arith}
 use lib.ListN.{length, getD, drop, drop-of-length-le}
 use lib.Seq.{drop-cons}
 use Rattle.chacha20.specs.Expand.{at, mixed, quarter, double-round}
+use Rattle.chacha20.specs.Lines.{odd-lines, even-lines}
 use Rattle.chacha20.proofs.Stream.{length-quarter}
-use Rattle.lanes.specs.Lanes.{odd-lines, even-lines}
 
 -- k words from i on, written out
-listed : (k i : ℕ) → List ℕ → List ℕ
+unfoldable pub listed : (k i : ℕ) → List ℕ → List ℕ
 listed zero i xs = []
 listed (suc k) i xs = getD xs i 0 ∷ listed k (suc i) xs
 
@@ -38,6 +38,10 @@ diagonals-listed : (a b c d e f g h i j k l m n o p : ℕ) →
     (a ∷ b ∷ c ∷ d ∷ e ∷ f ∷ g ∷ h ∷ i ∷ j ∷ k ∷ l ∷ m ∷ n ∷ o ∷ p ∷ []))))
 unfolding four-lines odd-lines even-lines quarter mixed at
 diagonals-listed a b c d e f g h i j k l m n o p = refl
+
+-- a state made anew of its words
+pub word-by-word : (xs : List ℕ) → length xs ≡ 16 → listed 16 0 xs ≡ xs
+word-by-word xs h = sym (listed-is 16 0 xs h)
 
 -- what holds of a state written out holds of every state
 written-out : (f g : List ℕ → List ℕ) (xs : List ℕ) → length xs ≡ 16 → f (listed 16 0 xs) ≡ g (listed 16 0 xs) → f xs ≡ g xs

@@ -1,9 +1,9 @@
--- `lanes::odd_lines` meets its contract. Four half steps, one after another. Assumes nothing.
+-- `chacha20::even_lines` meets its contract. Four half steps, one after another. Assumes nothing.
 use borrow.Author.Needs.{needs}
 use Rattle.chacha20.specs.Expand.{at}
-use Rattle.lanes.proofs.Together.{odd-steps}
-use Rattle.lanes.proofs.odd_lines.Statement.{statement}
-use Rattle.lanes.proofs.odd_lines.Tie as tie
+use Rattle.chacha20.proofs.Together.{even-steps}
+use Rattle.chacha20.proofs.even_lines.Statement.{statement}
+use Rattle.chacha20.proofs.even_lines.Tie as tie
 
 array-read-half-step : tie.Need-array-read-half-step
 array-read-half-step c = search needs
@@ -57,10 +57,10 @@ returns : tie.Need-returns
 unfolding at
 returns c =
     let a = c .before .before .before .before .args in
-    odd-steps (a .t2) (a .t3) (a .t4) (a .t5) (a .roll) (a .state) _ _ _ _ (c .before .before .before .half-step .ensures) (c .before .before .half-step2 .ensures) (c .before .half-step3 .ensures) (c .half-step4 .ensures)
+    even-steps (a .t2) (a .t3) (a .t4) (a .t5) (a .roll) (a .state) _ _ _ _ (c .before .before .before .half-step .ensures) (c .before .before .half-step2 .ensures) (c .before .half-step3 .ensures) (c .half-step4 .ensures)
 
-pub odd-lines-spec : {M : Type 1} → statement M
-odd-lines-spec =
+pub even-lines-spec : {M : Type 1} → statement M
+even-lines-spec =
     tie.close
     (tie.spec
     array-read-half-step
