@@ -38,14 +38,13 @@ fn xor_block(seed: &[u8], counter: u32, out: &mut [u8])
     xor_front(&made, out);
 }
 
-// XORs the four blocks from `counter` on into `out`, which has at most their length.
-fn xor_four_blocks(seed: &[u8], counter: u32, out: &mut [u8])
-    requires { ⌜ (length (now seed) ≡ 32) × (counter + 4 < 2 ^ 32) × (length (now out) ≤ 256) ⌝ }
+// XORs the four blocks from `counter` on into `out`, which has at most their length. `made` is room for them.
+fn xor_four_blocks(seed: &[u8], counter: u32, made: &mut [u8], out: &mut [u8])
+    requires { ⌜ (length (now seed) ≡ 32) × (counter + 4 < 2 ^ 32) × (length (now made) ≡ 256) × (length (now out) ≤ 256) ⌝ }
     ensures { λ r. ⌜ now (out .exit) ≡ xors (now (out .entry)) (take (length (now (out .entry))) (blocks 4 counter (now (seed .entry)))) ⌝ }
 {
-    let mut made = [0u8; 256];
-    lanes::four_counters(seed, counter, &mut made);
-    xor_front(&made, out);
+    lanes::four_counters(seed, counter, made);
+    xor_front(made, out);
 }
 
 // Where the next four blocks end that begin at `done`, or the row of `all` bytes.
@@ -64,11 +63,12 @@ fn xor_row(seed: &[u8], out: &mut [u8])
     requires { ⌜ (length (now seed) ≡ 32) × (length (now out) ≤ 4096) ⌝ }
     ensures { λ r. ⌜ now (out .exit) ≡ xors (now (out .entry)) (expand (length (now (out .entry))) (now (seed .entry))) ⌝ }
 {
+    let mut made = [0u8; 256];
     let mut done: usize = 0;
     let mut counter: u32 = 0;
     while BLOCK_BYTES < out.len() - done {
         let end = next_end(done, out.len());
-        xor_four_blocks(seed, counter, &mut out[done..end]);
+        xor_four_blocks(seed, counter, &mut made, &mut out[done..end]);
         done = end;
         counter += 4;
     }
@@ -108,13 +108,12 @@ pub fn expand(seed: &[u8], out: &mut [u8])
     put_rest(seed, next, &mut out[done..]);
 }
 
-// XORs the rows of four seeds into `out`, which has at most a block's length.
-fn xor_four(seeds: &[u8], out: &mut [u8])
-    requires { ⌜ (length (now seeds) ≡ 128) × (length (now out) ≤ 64) ⌝ }
+// XORs the rows of four seeds into `out`, which has at most a block's length. `made` is room for their blocks.
+fn xor_four(seeds: &[u8], made: &mut [u8], out: &mut [u8])
+    requires { ⌜ (length (now seeds) ≡ 128) × (length (now made) ≡ 256) × (length (now out) ≤ 64) ⌝ }
     ensures { λ r. ⌜ now (out .exit) ≡ xors (now (out .entry)) (rows-joined 4 (length (now (out .entry))) (now (seeds .entry))) ⌝ }
 {
-    let mut made = [0u8; 256];
-    lanes::four_seeds(seeds, &mut made);
+    lanes::four_seeds(seeds, made);
     let mut lane: usize = 0;
     while lane < 4 {
         let from = BLOCK_BYTES * lane;
@@ -134,10 +133,11 @@ fn xor_fours(seeds: &[u8], out: &mut [u8]) -> usize
         return taken;
     }
     let count = seeds.len() / SEED_BYTES;
+    let mut made = [0u8; 256];
     while 4 <= count - taken {
         let from = SEED_BYTES * taken;
         let end = from + 4 * SEED_BYTES;
-        xor_four(&seeds[from..end], out);
+        xor_four(&seeds[from..end], &mut made, out);
         taken += 4;
     }
     taken

@@ -9,14 +9,8 @@ use Rattle.xor.specs.Xor.{xors}
 use Rattle.rows.proofs.xor_four_blocks.Statement.{statement}
 use Rattle.rows.proofs.xor_four_blocks.Tie as tie
 
-slice-aggregate-four-counters : tie.Need-slice-aggregate-four-counters
-slice-aggregate-four-counters c = search needs
-
 four-counters-requires : tie.Need-four-counters-requires
 four-counters-requires c κs = search needs
-
-slice-aggregate-xor-front : tie.Need-slice-aggregate-xor-front
-slice-aggregate-xor-front c = search needs
 
 xor-front-requires : tie.Need-xor-front-requires
 xor-front-requires c κs = search needs
@@ -24,18 +18,15 @@ xor-front-requires c κs = search needs
 same-length : tie.Need-same-length
 same-length c = search needs
 
+same-length-2 : tie.Need-same-length-2
+same-length-2 c = search needs
+
 returns : tie.Need-returns
 returns c =
-    let out = now (c .before .before .before .before .before .before .before .before .before .before .args .out) in
-    c .before .before .xor-front .ensures ∙ ap (λ (made : List ℕ). xors out (take (length out) made)) (c .before .before .before .before .before .before .four-counters .ensures)
+    let out = now (c .before .before .before .before .before .before .before .before .before .before .before .before .args .out) in
+    c .before .before .xor-front .ensures ∙ ap (λ (made : List ℕ). xors out (take (length out) made)) (c .before .before .before .before .before .before .before .four-counters .ensures)
 
 pub xor-four-blocks-spec : {M : Type 1} → statement M
 xor-four-blocks-spec =
     tie.close
-    (tie.spec
-    slice-aggregate-four-counters
-    four-counters-requires
-    slice-aggregate-xor-front
-    xor-front-requires
-    same-length
-    returns)
+    (tie.spec four-counters-requires xor-front-requires same-length same-length-2 returns)
