@@ -26,7 +26,8 @@
        input is undefined. Inputs may overlap each other. Every pointer must be good for the whole length that is passed with it.
      - uint32_t results are aligned as the machine wants a uint32_t. Byte pointers need no alignment.
      - A call holds no state: it keeps no pointer, allocates nothing, reads no file, draws no random bytes, and calls at most memcpy, memmove
-       and memset. Calls may run on several threads at once, also on the same input; outputs of calls that run at once must be apart.
+       and memset, and on 32-bit machines what the compiler divides by. Calls may run on several threads at once, also on the same input;
+       outputs of calls that run at once must be apart.
      - A call needs stack: see NSG_STACK_BYTES.
 
    How long a call takes is not proved to be independent of the bytes in a key. Drawing random bytes is the caller's part: the proof that
