@@ -1,5 +1,4 @@
 pub mod Keys
 pub mod Promise
 pub mod Document03
-pub mod Answers
 pub mod Held

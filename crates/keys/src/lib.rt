@@ -1,8 +1,2 @@
-// A key's bytes: numbers in groups of seven bits, headers, the marks and held seeds of a grid row, the length of a key, the check of
-// a key (10, 1 to 5, 11, 12, 13), and the held seed as a part of the caller's own key.
-// The lent keys are bytes of every kind: neither `check_key` nor `held_seed` requires anything of them.
-pub mod check;
-pub mod grid_row;
-pub mod held;
-pub mod length;
-pub mod reader;
+// A key's bytes: what document 01 and document 03 say of them stands in specs/, and the laws and promises of the format in proofs/: numbers
+// in groups of seven bits, headers, marks, parts, opening, and the held seeds. There is no code here. Assumes nothing.

@@ -1,0 +1,2 @@
+-- The laws of reading a key. Assumes nothing.
+pub mod Reading

@@ -1,0 +1,47 @@
+-- `key_rows::row_fits` meets its contract: both counts are those of the definition. Assumes nothing.
+use native.Mathlib.Omega.{arith}
+use Rattle.grid.specs.Code.{board-of}
+use Rattle.key_lengths.proofs.Lengths.{mark-bytes-in}
+use Rattle.keys.proofs.Counting.{row-unfit, row-fit}
+use borrow.Author.Needs.{needs}
+use Rattle.key_rows.proofs.row_fits.Statement.{statement}
+use Rattle.key_rows.proofs.row_fits.Tie as tie
+
+columns-requires : tie.Need-columns-requires
+columns-requires c κs = search needs
+
+marks-between-requires : tie.Need-marks-between-requires
+marks-between-requires c κs = search needs
+
+returns : tie.Need-returns
+returns c =
+    let k = c .before in row-unfit _ _ _ _ (k .before .columns .ensures) (k .marks-between .ensures) (c .if1 .taken)
+
+mark-bytes-requires : tie.Need-mark-bytes-requires
+mark-bytes-requires c κs = search needs
+
+mul-bits : tie.Need-mul-bits
+mul-bits c =
+    let start = c .before .before .before .before .before in
+    let size = mark-bytes-in (board-of (start .args .board)) (start .pre) in omega arith
+
+marks-between-requires-2 : tie.Need-marks-between-requires-2
+marks-between-requires-2 c κs = search needs
+
+returns-2 : tie.Need-returns-2
+returns-2 c =
+    let k = c .before .before .before in
+    row-fit _ _ _ _ _ _ (k .before .columns .ensures) (c .before .mark-bytes .ensures) (k .marks-between .ensures) (c .before .before .if1 .left)
+    (c .marks-between2 .ensures)
+
+pub row-fits-spec : {M : Type 1} → statement M
+row-fits-spec =
+    tie.close
+    (tie.spec
+    columns-requires
+    marks-between-requires
+    returns
+    mark-bytes-requires
+    mul-bits
+    marks-between-requires-2
+    returns-2)
