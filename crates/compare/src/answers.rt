@@ -11,8 +11,8 @@ use crate::file::RESULT_4;
 use crate::file::RESULT_5;
 use crate::file::front;
 use crate::file::number_at;
-use keys::grid_row::part_from;
-use keys::reader::byte;
+use key_reading::byte;
+use key_reading::part_from;
 use nosingginger::Answer;
 
 // The number of a refusal, or 0, and the numbers that an operation answers beside it; those that it has not are 0.

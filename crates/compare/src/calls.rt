@@ -41,7 +41,7 @@ use crate::operations::KEY_LENGTH;
 use crate::operations::OPEN_ALL;
 use crate::operations::OPEN_ONE;
 use crate::operations::SENSOR_POSITION;
-use keys::reader::byte;
+use key_reading::byte;
 use nosingginger::KeyCheck;
 
 // A number that no operation answers.
@@ -167,7 +167,7 @@ fn on_output(operation: u8, head: &[u8], inputs: &[u8], answer: &[u8], output: &
 fn held_seed(head: &[u8], inputs: &[u8], answer: &[u8]) -> bool {
     let grid_row = number_at(head, NUMBER_1);
     let column = number_at(head, NUMBER_2);
-    let place = keys::held::held_seed_place(inputs, grid_row, column);
+    let place = key_check::held::held_seed_place(inputs, grid_row, column);
     if place != length_at(head, RESULT_1) {
         return false;
     }

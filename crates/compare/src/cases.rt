@@ -12,7 +12,7 @@ use crate::file::further;
 use crate::file::inputs_kept;
 use crate::file::inputs_length;
 use crate::file::part;
-use keys::reader::byte;
+use key_reading::byte;
 use libc::STDOUT_FILENO;
 
 // Where a case begins, where its inputs begin, which may be those of a case before it, and where its answer's bytes begin.

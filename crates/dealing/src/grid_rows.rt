@@ -10,8 +10,8 @@ ghost use Rattle.keys.specs.Keys.{packed-from, packed, held-seeds, body-from};
 ghost use Rattle.dealing.specs.Rows.{mark-digit, row-bytes};
 ghost use Rattle.writer.specs.Written.{Wrote};
 use grid::board::Board;
-use keys::grid_row::SEED_BYTES;
-use keys::grid_row::mark_bytes;
+use key_lengths::SEED_BYTES;
+use key_lengths::mark_bytes;
 use writer::put;
 use writer::put_byte;
 

@@ -11,7 +11,7 @@ ghost use Rattle.keys.specs.Keys.{words-from};
 ghost use Rattle.writer.specs.Written.{Wrote};
 ghost use Rattle.dealing.specs.Dealt.{rule, dealt-word};
 use grid::board::Board;
-use keys::grid_row::SEED_BYTES;
+use key_lengths::SEED_BYTES;
 use rows::xor_rows;
 
 // Writes the value from place `from` on, and zeros everywhere else.

@@ -15,13 +15,13 @@ use Rattle.grid.specs.Grid.{Board, board, board-refusal, grid-rows}
 use Rattle.grid.specs.Code.{board-of}
 use Rattle.grid.proofs.Facts.{board-in}
 use Rattle.keys.specs.Keys.{head-in, key-long, marks-good, key-refusal}
-use Rattle.keys.specs.Answers.{heading-in}
-use Rattle.keys.specs.declared.reader.Reader.{Reader}
-use Rattle.keys.specs.declared.reader.Header.{Header}
-use Rattle.keys.specs.declared.reader.Heading.{Heading}
+use Rattle.key_reading.specs.Answers.{heading-in}
+use Rattle.key_reading.specs.declared.Reader.{Reader}
+use Rattle.key_reading.specs.declared.Header.{Header}
+use Rattle.key_reading.specs.declared.Heading.{Heading}
 use Rattle.keys.proofs.Accepted.{passed, last-passed, refusing, key-accepted}
-use Rattle.keys.proofs.Checks.{long-is}
-use Rattle.keys.proofs.Reading.{heading-says, heading-none}
+use Rattle.key_lengths.proofs.Lengths.{long-is}
+use Rattle.key_reading.proofs.Reading.{heading-says, heading-none}
 use Rattle.entry.specs.Entry.{or-else}
 use Rattle.join_calls.specs.JoinKeys.{numbers-refusal, head-refusal, same-board, place-refusal, places-refusal, keys-refusal, joined-table, Join-keys-says}
 use Rattle.entry.proofs.Answering.{put-number, put-done, first-fits, next-fits, in-front-part}

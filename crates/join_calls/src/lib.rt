@@ -2,10 +2,10 @@
 use entry::refusals::ACCEPTED;
 use entry::refusals::REFUSED_NUMBER;
 use grid::board::Board;
-use keys::length::key_length;
-use keys::reader::Header;
-use keys::reader::Heading;
-use keys::reader::header_in;
+use key_lengths::key_length;
+use key_reading::Header;
+use key_reading::Heading;
+use key_reading::header_in;
 ghost use mathlib.Core.Path.{_≡_};
 ghost use Prim.Native.Nat.{_*_};
 ghost use lib.ListN.{length};

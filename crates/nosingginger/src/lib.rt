@@ -25,11 +25,11 @@ use grid::board::within;
 use grid::sensor::SENSORS;
 pub use join_calls::join_keys;
 pub use join_calls::join_shares;
-pub use keys::check::KeyCheck;
-pub use keys::check::check_key;
-use keys::grid_row::SEED_BYTES;
-pub use keys::held::held_seed;
-pub use keys::reader::Header;
+pub use key_check::check::KeyCheck;
+pub use key_check::check::check_key;
+pub use key_check::held::held_seed;
+use key_lengths::SEED_BYTES;
+pub use key_reading::Header;
 pub use open_calls::open_all;
 pub use open_calls::open_one;
 
@@ -50,7 +50,7 @@ pub fn key_length(players: u32, positions: u32, width: u32, value_bytes: u32) ->
     if refusal != ACCEPTED {
         return refused(refusal);
     }
-    let length = keys::length::key_length(board) as u32;
+    let length = key_lengths::key_length(board) as u32;
     accepted(length)
 }
 

@@ -5,10 +5,10 @@ use mathlib.Core.List.{List, []}
 use Prim.Native.Nat.{ℕ}
 use borrow.Author.Tests.{ne-eqb}
 use lib.Dec.{eqb}
-use Rattle.keys.specs.Answers.{checked-as, key-checked}
-use Rattle.keys.specs.declared.reader.Header.{Header}
-use Rattle.keys.specs.declared.check.KeyCheck.{KeyCheck}
-use Rattle.keys.proofs.Holding.{refused-says}
+use Rattle.key_check.specs.Checked.{checked-as, key-checked}
+use Rattle.key_reading.specs.declared.Header.{Header}
+use Rattle.key_check.specs.declared.check.KeyCheck.{KeyCheck}
+use Rattle.key_check.proofs.Says.{refused-says}
 use Rattle.entry.specs.Entry.{says}
 use Rattle.entry.specs.declared.Answer.{Answer}
 use Rattle.nosingginger_c.specs.C.{Through, Value-put, Check-says}

@@ -5,7 +5,7 @@ ghost use Rattle.keys.specs.Held.{held-seed-place};
 ghost use Rattle.entry.specs.Entry.{Deal-says, Long-says, Open-one-says, Open-all-says, Join-says, Expand-says, Width-says, Sensor-says};
 ghost use Rattle.join_calls.specs.JoinKeys.{Join-keys-says};
 ghost use Rattle.nosingginger_c.specs.C.{Through, Value-put, Check-says};
-use keys::held::held_seed_place;
+use key_check::held::held_seed_place;
 use nosingginger::Answer;
 use nosingginger::KeyCheck;
 use nosingginger::refusals::ACCEPTED;

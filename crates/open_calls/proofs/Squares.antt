@@ -11,10 +11,10 @@ use Rattle.chacha20.specs.Expand.{expand}
 use Rattle.grid.specs.Grid.{board, row-long}
 use Rattle.grid.specs.Code.{board-of}
 use Rattle.keys.specs.Keys.{key-refusal, head-in, opened, table}
-use Rattle.keys.specs.Answers.{checked-as, key-checked}
-use Rattle.keys.specs.declared.reader.Header.{Header}
-use Rattle.keys.specs.declared.check.KeyCheck.{KeyCheck}
-use Rattle.keys.proofs.Holding.{Accepted-as, refused-says}
+use Rattle.key_check.specs.Checked.{checked-as, key-checked}
+use Rattle.key_reading.specs.declared.Header.{Header}
+use Rattle.key_check.specs.declared.check.KeyCheck.{KeyCheck}
+use Rattle.key_check.proofs.Says.{Accepted-as, refused-says}
 use Rattle.opening.specs.Shares as Opening
 use Rattle.entry.specs.Entry.{or-else, in-front, rule, key-rule, Open-one-says, Open-all-says}
 use Rattle.entry.proofs.Answering.{put-number, put-done, first-fits, next-fits}

@@ -2,8 +2,8 @@
 use entry::refusals::ACCEPTED;
 use entry::refusals::REFUSED_POSITION;
 use entry::refusals::REFUSED_ROOM;
-use keys::check::KeyCheck;
-use keys::check::check_key;
+use key_check::check::KeyCheck;
+use key_check::check::check_key;
 ghost use Rattle.entry.specs.Entry.{Open-one-says};
 
 // OPEN ONE: Check key's numbers, 14, 9; writes the share of one square, from the part of the key that begins at its grid row.

@@ -1,8 +1,8 @@
 // Opening every square of a key. Assumes nothing.
 use entry::refusals::ACCEPTED;
 use entry::refusals::REFUSED_ROOM;
-use keys::check::KeyCheck;
-use keys::check::check_key;
+use key_check::check::KeyCheck;
+use key_check::check::check_key;
 ghost use Rattle.entry.specs.Entry.{Open-all-says};
 
 // OPEN ALL: Check key's numbers, 9; writes the full table.

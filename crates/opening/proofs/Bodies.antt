@@ -13,13 +13,14 @@ use Rattle.grid.specs.Grid.{Board, row-long, board-refusal}
 use Rattle.grid.proofs.Facts.{Board-in, board-accepted, cell-in, cell-fits}
 use Rattle.grid.proofs.Cells.{take-zeros}
 use Rattle.keys.specs.Keys.{key-refusal, head-in, header, stride, row-part, opened-part, opened, parts-of, parts-in, table-from, table}
-use Rattle.keys.specs.Answers.{checked-as, key-checked}
-use Rattle.keys.specs.declared.reader.Header.{Header}
-use Rattle.keys.specs.declared.check.KeyCheck.{KeyCheck}
+use Rattle.key_check.specs.Checked.{checked-as, key-checked}
+use Rattle.key_reading.specs.declared.Header.{Header}
+use Rattle.key_check.specs.declared.check.KeyCheck.{KeyCheck}
 use Rattle.opening.specs.Shares.{Accepted-with, in-front, shares}
 use Rattle.opening.proofs.Tables.{opened-shares}
 use Rattle.keys.proofs.Accepted.{Body-in, key-in, body-in}
-use Rattle.keys.proofs.Holding.{accepted-says, row-place}
+use Rattle.keys.proofs.Holding.{row-place}
+use Rattle.key_check.proofs.Says.{accepted-says}
 
 -- a table's length is far from the largest number
 pub table-most : (b : Board) → Board-in b → b .n * b .w ≤ 1048576

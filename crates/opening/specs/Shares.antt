@@ -10,7 +10,7 @@ use Rattle.xor.specs.Xor.{xors, zeros}
 use Rattle.grid.specs.Grid.{Board, columns}
 use Rattle.grid.specs.Code.{board-of}
 use Rattle.keys.specs.Keys.{mark-bytes, word-behind, key-refusal, head-in}
-use Rattle.keys.specs.declared.reader.Header.{Header}
+use Rattle.key_reading.specs.declared.Header.{Header}
 use Rattle.keys.specs.Held.{marked}
 
 -- n bytes of a row or of a word, from byte s on; "cell c of a row or word is the w bytes from c × w on"

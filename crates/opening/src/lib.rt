@@ -4,13 +4,13 @@
 // one after another, so that all their rows are XORed at once, and the words after them. Whoever calls has checked the key and the room for the output.
 // Assumes nothing.
 use grid::board::Board;
-use keys::grid_row::SEED_BYTES;
-use keys::grid_row::mark;
-use keys::grid_row::mark_bytes;
-use keys::grid_row::part_from;
-use keys::grid_row::stride;
-use keys::length::grid_row_from;
-use keys::reader::Header;
+use key_lengths::SEED_BYTES;
+use key_lengths::grid_row_from;
+use key_lengths::mark_bytes;
+use key_lengths::stride;
+use key_reading::Header;
+use key_reading::part_from;
+use key_rows::mark;
 use rows::xor_rows;
 use writer::clear;
 use xor::xor_into;

@@ -16,11 +16,11 @@ use Rattle.grid.specs.Grid.{Board, board, board-refusal, columns, grid-rows, ro
 use Rattle.grid.proofs.Facts.{board-in}
 use Rattle.grid.proofs.Sizes.{columns-few, row-most}
 use Rattle.keys.specs.Keys.{head-of, head-in, Lent, key-long, deal-refusal}
-use Rattle.keys.specs.Answers.{heading-in}
-use Rattle.keys.specs.declared.reader.Reader.{Reader}
-use Rattle.keys.specs.declared.reader.Header.{Header}
-use Rattle.keys.specs.declared.reader.Heading.{Heading}
-use Rattle.keys.proofs.Reading.{heading-says, heading-none}
+use Rattle.key_reading.specs.Answers.{heading-in}
+use Rattle.key_reading.specs.declared.Reader.{Reader}
+use Rattle.key_reading.specs.declared.Header.{Header}
+use Rattle.key_reading.specs.declared.Heading.{Heading}
+use Rattle.key_reading.proofs.Reading.{heading-says, heading-none}
 use Rattle.keys.proofs.Accepted.{passed, last-passed, refusing}
 use Rattle.entry.specs.Entry.{or-else, lent, Put-says, Deal-says}
 use Rattle.entry.proofs.Answering.{first-fits, next-fits}

@@ -14,11 +14,11 @@ use Rattle.grid.specs.Grid.{Board, board}
 use Rattle.grid.specs.Code.{board-of}
 use Rattle.grid.proofs.Facts.{board-in}
 use Rattle.keys.specs.Keys.{head-in, Head}
-use Rattle.keys.specs.Answers.{heading-in}
-use Rattle.keys.specs.declared.reader.Reader.{Reader}
-use Rattle.keys.specs.declared.reader.Header.{Header}
-use Rattle.keys.specs.declared.reader.Heading.{Heading}
-use Rattle.keys.proofs.Reading.{heading-says, heading-none}
+use Rattle.key_reading.specs.Answers.{heading-in}
+use Rattle.key_reading.specs.declared.Reader.{Reader}
+use Rattle.key_reading.specs.declared.Header.{Header}
+use Rattle.key_reading.specs.declared.Heading.{Heading}
+use Rattle.key_reading.proofs.Reading.{heading-says, heading-none}
 use Rattle.entry.specs.Entry.{or-else, in-front, Put-says}
 use Rattle.join_calls.specs.JoinKeys.{numbers-refusal, head-refusal, keys-refusal, joined-table, Join-keys-says}
 use Rattle.entry.proofs.Answering.{first-fits, next-fits, put-refused, put-done}

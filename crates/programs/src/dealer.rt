@@ -2,10 +2,10 @@
 use crate::MOST_BYTES;
 use crate::put_refusal;
 use grid::board::Board;
-use keys::check::REFUSED_NUMBER;
-use keys::length::key_length;
-use keys::reader::Heading;
-use keys::reader::header_in;
+use key_check::check::REFUSED_NUMBER;
+use key_lengths::key_length;
+use key_reading::Heading;
+use key_reading::header_in;
 use nosingginger::deal;
 use nosingginger::refusals::ACCEPTED;
 use nosingginger::refusals::REFUSED_LENT;

@@ -2,11 +2,11 @@
 use crate::MOST_BYTES;
 use crate::put_refusal;
 use crate::put_text;
-use keys::check::REFUSED_LENGTH;
-use keys::check::REFUSED_NUMBER;
-use keys::check::REFUSED_PLAYER;
-use keys::reader::Heading;
-use keys::reader::header_in;
+use key_check::check::REFUSED_LENGTH;
+use key_check::check::REFUSED_NUMBER;
+use key_check::check::REFUSED_PLAYER;
+use key_reading::Heading;
+use key_reading::header_in;
 use nosingginger::join_keys;
 use nosingginger::refusals::ACCEPTED;
 ghost use mathlib.Core.Path.{_≡_};

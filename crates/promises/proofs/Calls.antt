@@ -14,7 +14,7 @@ use Rattle.xor.proofs.Laws.{length-xors, word-zeros}
 use Rattle.grid.specs.Grid.{board}
 use Rattle.keys.specs.Keys.{key, key-refusal, head-in}
 use Rattle.keys.specs.Promise.{entry, Dealt-accepted}
-use Rattle.keys.specs.Answers.{head-numbers, key-checked}
+use Rattle.key_check.specs.Checked.{head-numbers, key-checked}
 use Rattle.keys.proofs.Accepted.{passed}
 use Rattle.keys.proofs.Promise.{dealt-accepted, dealt-board, dealt-player}
 use Rattle.entry.specs.Entry.{lent, rule, Deal-says, Open-one-says, Open-all-says, joined-shares, shares-refusal, Join-says, Expand-says}

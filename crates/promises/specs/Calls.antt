@@ -12,7 +12,7 @@ use Rattle.xor.specs.Xor.{zeros, bytes-good}
 use Rattle.grid.specs.Grid.{Board, board}
 use Rattle.grid.specs.Joining.{over}
 use Rattle.keys.specs.Keys.{key-refusal, head-in, key-long}
-use Rattle.keys.specs.Answers.{key-checked}
+use Rattle.key_check.specs.Checked.{key-checked}
 use Rattle.keys.specs.Promise.{entry, point-table}
 use Rattle.entry.specs.Entry.{Deal-says, Long-says, Open-one-says, Open-all-says, Join-says, Expand-says, in-front}
 use Rattle.join_calls.specs.JoinKeys.{Join-keys-says}

@@ -5,8 +5,8 @@ ghost use mathlib.Core.Path.{_≡_};
 ghost use Prim.Native.Nat.{_≤_};
 ghost use lib.ListN.{length};
 use grid::board::Board;
-use keys::reader::Number;
-use keys::reader::Reader;
+use key_reading::Number;
+use key_reading::Reader;
 use libc::STDOUT_FILENO;
 use nosingginger::Answer;
 

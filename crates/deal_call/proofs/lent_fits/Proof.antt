@@ -4,7 +4,7 @@ use Prim.Native.Nat.{_*_, _≤_}
 use native.Mathlib.Omega.{arith}
 use Rattle.grid.specs.Grid.{board, columns, grid-rows}
 use Rattle.grid.specs.Code.{board-of}
-use Rattle.keys.proofs.Lengths.{columns-in}
+use Rattle.key_lengths.proofs.Lengths.{columns-in}
 use Rattle.deal_call.proofs.Lending.{cells-are, cells-most, words-most, other-value, other-arrays, other-seeds, fits-but-words}
 use borrow.Author.Needs.{needs}
 use Rattle.deal_call.proofs.lent_fits.Statement.{statement}

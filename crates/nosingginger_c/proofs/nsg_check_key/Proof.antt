@@ -1,6 +1,6 @@
 -- `nosingginger_c::nsg_check_key` meets its contract. Assumes nothing.
 use mathlib.Core.Path.{refl, sym, ap, _∙_}
-use Rattle.keys.specs.Answers.{checked-as}
+use Rattle.key_check.specs.Checked.{checked-as}
 use Rattle.nosingginger_c.proofs.Pointers.{check-refused, check-accepted}
 use borrow.Author.Needs.{needs}
 use Rattle.nosingginger_c.proofs.nsg_check_key.Statement.{statement}

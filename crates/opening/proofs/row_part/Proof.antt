@@ -5,7 +5,7 @@ use denote.Ref.{now}
 use borrow.Author.Needs.{needs}
 use Rattle.xor.proofs.Laws.{good-by-entries}
 use Rattle.grid.specs.Code.{board-of}
-use Rattle.keys.specs.Answers.{header-written}
+use Rattle.key_reading.specs.Answers.{header-written}
 use Rattle.opening.proofs.Bodies.{key-board-accepted, part-of-key}
 use Rattle.opening.proofs.row_part.Statement.{statement}
 use Rattle.opening.proofs.row_part.Tie as tie

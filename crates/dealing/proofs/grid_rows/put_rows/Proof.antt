@@ -16,7 +16,7 @@ use Rattle.dealing.proofs.grid_rows.put_rows.Statement.{statement}
 use Rattle.dealing.proofs.grid_rows.put_rows.Tie as tie
 use Rattle.dealing.proofs.grid_rows.put_rows.Reads as reads
 use Rattle.dealing.proofs.grid_rows.put_rows.Lts as lts
-use Rattle.keys.proofs.grid_row.mark_bytes.Reads as mark-bytes-reads
+use Rattle.key_lengths.proofs.mark_bytes.Reads as mark-bytes-reads
 use Rattle.dealing.proofs.grid_rows.put_row.Reads as put-row-reads
 use Rattle.grid.proofs.board.Board.columns.Reads as columns-reads
 use Rattle.grid.proofs.board.Board.grid_rows.Reads as grid-rows-reads

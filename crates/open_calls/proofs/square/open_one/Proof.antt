@@ -1,8 +1,8 @@
 -- `open_calls::square::open_one` meets its contract. Assumes nothing.
 use mathlib.Core.Path.{sym, ap, _∙_}
 use denote.Ref.{now}
-use Rattle.keys.specs.Answers.{checked-as}
-use Rattle.keys.proofs.Holding.{Accepted-as, accepted-says}
+use Rattle.key_check.specs.Checked.{checked-as}
+use Rattle.key_check.proofs.Says.{Accepted-as, accepted-says}
 use Rattle.open_calls.proofs.Squares.{with-header, one-key-refused, one-position-refused, one-room-refused, one-opened}
 use borrow.Author.Needs.{needs}
 use Rattle.open_calls.proofs.square.open_one.Statement.{statement}

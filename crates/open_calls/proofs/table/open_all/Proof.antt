@@ -1,12 +1,12 @@
 -- `open_calls::table::open_all` meets its contract. Assumes nothing.
 use mathlib.Core.Path.{sym, ap, _∙_}
 use denote.Ref.{now}
-use Rattle.keys.specs.Answers.{checked-as}
+use Rattle.key_check.specs.Checked.{checked-as}
 use Prim.Native.Nat.{_*_, _≤_}
 use native.Mathlib.Omega.{arith}
 use Rattle.grid.specs.Grid.{board}
 use Rattle.grid.specs.Code.{board-of}
-use Rattle.keys.proofs.Holding.{Accepted-as, accepted-says, board-fine}
+use Rattle.key_check.proofs.Says.{Accepted-as, accepted-says, board-fine}
 use Rattle.entry.proofs.Sizes.{table-most}
 use Rattle.open_calls.proofs.Squares.{with-header, all-key-refused, all-room-refused, all-opened}
 use borrow.Author.Needs.{needs}

@@ -4,7 +4,7 @@ use Prim.Native.Nat.{_*_, _-_}
 use native.Mathlib.Omega.{arith}
 use Rattle.grid.specs.Grid.{board, columns, row-long}
 use Rattle.grid.specs.Code.{board-of}
-use Rattle.keys.proofs.Lengths.{columns-in}
+use Rattle.key_lengths.proofs.Lengths.{columns-in}
 use Rattle.programs.specs.Programs.{asked-bytes}
 use Rattle.programs.proofs.Dealings.{words-most}
 use borrow.Author.Needs.{needs}
