@@ -34,7 +34,7 @@ fn xor_block(seed: &[u8], counter: u32, out: &mut [u8])
 {
     let nonce = [0u8; 12];
     let mut made = [0u8; 64];
-    chacha20::block(seed, counter, &nonce, &mut made);
+    blocks::block(seed, counter, &nonce, &mut made);
     xor_front(&made, out);
 }
 
@@ -84,12 +84,12 @@ fn put_rest(seed: &[u8], counter: u32, out: &mut [u8])
 {
     if out.len() <= BLOCK_BYTES {
         let nonce = [0u8; 12];
-        chacha20::key_stream(seed, counter, &nonce, out);
+        blocks::key_stream(seed, counter, &nonce, out);
         return;
     }
     let mut made = [0u8; 256];
     lanes::four_counters(seed, counter, &mut made);
-    chacha20::copy_front(&made, out);
+    blocks::copy_front(&made, out);
 }
 
 // Document 01, "Rows from seeds": the seed is the key, the nonce twelve zero bytes, and the block counter starts at 0.

@@ -6,7 +6,8 @@ use lib.ListN.{length}
 use denote.Ref.{now}
 use borrow.Rule.Slice.PartMut.{mid-len, same-len-mid}
 use Rattle.xor.specs.Xor.{zeros}
-use Rattle.chacha20.proofs.Stream.{Written, start, next-blocks, cut, blocks-is, expand-is}
+use Rattle.chacha20.proofs.Stream.{blocks-is, expand-is}
+use Rattle.blocks.proofs.Written.{Written, start, next-blocks, cut}
 use Rattle.rows.proofs.expand.Statement.{statement}
 use Rattle.rows.proofs.expand.Tie as tie
 

@@ -1,9 +1,9 @@
--- `chacha20::load` meets its contract. Four bytes from a place on. Assumes nothing.
+-- `state_words::load` meets its contract. Four bytes from a place on. Assumes nothing.
 use borrow.Author.Needs.{needs}
-use Rattle.chacha20.proofs.Words.{word-of-four}
+use Rattle.state_words.proofs.Bytes.{word-of-four}
 use mathlib.Core.Path.{_∙_}
-use Rattle.chacha20.proofs.load.Statement.{statement}
-use Rattle.chacha20.proofs.load.Tie as tie
+use Rattle.state_words.proofs.load.Statement.{statement}
+use Rattle.state_words.proofs.load.Tie as tie
 
 shared-slice-read-word-of : tie.Need-shared-slice-read-word-of
 shared-slice-read-word-of c = search needs

@@ -1,9 +1,9 @@
--- `chacha20::word_of` meets its contract. The sum is the definition's. Assumes nothing.
+-- `state_words::word_of` meets its contract. The sum is the definition's. Assumes nothing.
 use borrow.Author.Needs.{needs}
 use mathlib.Core.Path.{refl}
 use Rattle.chacha20.specs.Expand.{word-at, at}
-use Rattle.chacha20.proofs.word_of.Statement.{statement}
-use Rattle.chacha20.proofs.word_of.Tie as tie
+use Rattle.state_words.proofs.word_of.Statement.{statement}
+use Rattle.state_words.proofs.word_of.Tie as tie
 
 mul-result : tie.Need-mul-result
 mul-result c = search needs

@@ -1,4 +1,4 @@
--- `chacha20::serialize` meets its contract. The loop's invariant: the first i words are written, the rest is as it was lent. Assumes nothing.
+-- `state_words::serialize` meets its contract. The loop's invariant: the first i words are written, the rest is as it was lent. Assumes nothing.
 use mathlib.Core.Path.{_≡_, refl, _∙_}
 use mathlib.Core.List.{[], _++_}
 use Prim.Native.Nat.{_≤_, _+_, _-_, _*_}
@@ -6,10 +6,10 @@ use native.Mathlib.Omega.{arith}
 use lib.ListN.{length, take, drop}
 use denote.Ref.{now}
 use borrow.Rule.Slice.PartMut.{mid-len, same-len-mid}
 use Rattle.chacha20.specs.Expand.{low-bytes}
-use Rattle.chacha20.proofs.Parts.{next-word, all-words}
-use Rattle.chacha20.proofs.serialize.Statement.{statement}
-use Rattle.chacha20.proofs.serialize.Tie as tie
+use Rattle.state_words.proofs.Bytes.{next-word, all-words}
+use Rattle.state_words.proofs.serialize.Statement.{statement}
+use Rattle.state_words.proofs.serialize.Tie as tie
 
 abbrev Inv-loop : tie.InvT-loop
 Inv-loop out₀ state i₀ out i = (i ≤ 16) × (length out ≡ 64) × (out ≡ low-bytes (take i state) ++ drop (4 * i) out₀)

@@ -1,8 +1,8 @@
--- `chacha20::block` meets its contract. The opening state, the rounds, the sums, their bytes. Assumes nothing.
+-- `blocks::block` meets its contract. The opening state, the rounds, the sums, their bytes. Assumes nothing.
 use borrow.Author.Needs.{needs}
-use Rattle.chacha20.proofs.Rounds.{four-steps}
-use Rattle.chacha20.proofs.block.Statement.{statement}
-use Rattle.chacha20.proofs.block.Tie as tie
+use Rattle.blocks.proofs.Written.{four-steps}
+use Rattle.blocks.proofs.block.Statement.{statement}
+use Rattle.blocks.proofs.block.Tie as tie
 
 initial-state-requires : tie.Need-initial-state-requires
 initial-state-requires c κs = search needs

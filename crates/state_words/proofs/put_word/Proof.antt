@@ -1,9 +1,9 @@
--- `chacha20::put_word` meets its contract. Four bytes are written into four places. Assumes nothing.
+-- `state_words::put_word` meets its contract. Four bytes are written into four places. Assumes nothing.
 use borrow.Author.Needs.{needs}
-use Rattle.chacha20.proofs.Words.{word-written}
+use Rattle.state_words.proofs.Bytes.{word-written}
 use denote.Ref.{now}
-use Rattle.chacha20.proofs.put_word.Statement.{statement}
-use Rattle.chacha20.proofs.put_word.Tie as tie
+use Rattle.state_words.proofs.put_word.Statement.{statement}
+use Rattle.state_words.proofs.put_word.Tie as tie
 
 cast-out : tie.Need-cast-out
 cast-out c = search needs

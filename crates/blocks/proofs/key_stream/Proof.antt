@@ -1,13 +1,13 @@
--- `chacha20::key_stream` meets its contract. The loop's invariant: whole blocks are written up to `done`, the rest is as it was lent. Assumes nothing.
+-- `blocks::key_stream` meets its contract. The loop's invariant: whole blocks are written up to `done`, the rest is as it was lent. Assumes nothing.
 use mathlib.Core.Path.{_≡_, sym, _∙_}
 use Prim.Native.Nat.{_+_, _-_}
 use native.Mathlib.Omega.{arith}
 use lib.ListN.{length}
 use denote.Ref.{now}
 use borrow.Rule.Slice.PartMut.{midOf, mid-len, same-len-mid}
-use Rattle.chacha20.proofs.Stream.{Written, start, next-blocks, ended, cut, stream-one, key-stream-short}
-use Rattle.chacha20.proofs.key_stream.Statement.{statement}
-use Rattle.chacha20.proofs.key_stream.Tie as tie
+use Rattle.blocks.proofs.Written.{Written, start, next-blocks, ended, cut, stream-one, key-stream-short}
+use Rattle.blocks.proofs.key_stream.Statement.{statement}
+use Rattle.blocks.proofs.key_stream.Tie as tie
 
 abbrev Inv-loop : tie.InvT-loop
 Inv-loop key counter nonce out₀ next₀ done₀ out next done = Written key nonce counter out₀ out next done

@@ -1,4 +1,4 @@
--- `chacha20::add_into` meets its contract. The loop's invariant: the first i places hold the sums, the rest is as it was lent. Assumes nothing.
+-- `state_words::add_into` meets its contract. The loop's invariant: the first i places hold the sums, the rest is as it was lent. Assumes nothing.
 use mathlib.Core.Path.{_≡_, refl, sym, _∙_}
 use mathlib.Core.List.{List, _++_, append-nil}
 use Prim.Native.Nat.{ℕ, _≤_, _<_, _+_, _-_, _%_, _^_}
@@ -8,10 +8,10 @@ use lib.Seq.{take-all}
 use denote.Ref.{now}
 use borrow.Author.Needs.{needs}
 use Rattle.xor.proofs.Writing.{next-is-old, next-written}
 use Rattle.chacha20.specs.Expand.{add, sums}
 use Rattle.chacha20.proofs.Parts.{length-sums, getD-sums}
-use Rattle.chacha20.proofs.add_into.Statement.{statement}
-use Rattle.chacha20.proofs.add_into.Tie as tie
+use Rattle.state_words.proofs.add_into.Statement.{statement}
+use Rattle.state_words.proofs.add_into.Tie as tie
 
 -- one turn: the next place gets the sum of what stood there and the input's word
 turn : (out old input : List ℕ) (i sum : ℕ) → length old ≡ length input → i < length old → out ≡ take i (sums old input) ++ drop i old →

@@ -1,10 +1,10 @@
--- `chacha20::initial_state` meets its contract. Word by word as the definition has it. Assumes nothing.
+-- `state_words::initial_state` meets its contract. Word by word as the definition has it. Assumes nothing.
 use borrow.Author.Needs.{needs}
 use mathlib.Core.List.{[], _∷_}
 use Rattle.chacha20.specs.Expand.{key-words}
 use Rattle.chacha20.specs.Rfc8439.{constant, opening-state}
-use Rattle.chacha20.proofs.initial_state.Statement.{statement}
-use Rattle.chacha20.proofs.initial_state.Tie as tie
+use Rattle.state_words.proofs.initial_state.Statement.{statement}
+use Rattle.state_words.proofs.initial_state.Tie as tie
 
 load-requires : tie.Need-load-requires
 load-requires c κs = search needs

@@ -1,12 +1,12 @@
--- `chacha20::copy_front` meets its contract. The loop's invariant: the first i bytes are copied, the rest is as it was lent. Assumes nothing.
+-- `blocks::copy_front` meets its contract. The loop's invariant: the first i bytes are copied, the rest is as it was lent. Assumes nothing.
 use mathlib.Core.Path.{_≡_, refl, _∙_}
 use mathlib.Core.List.{List, _++_, append-nil}
 use Prim.Native.Nat.{ℕ, _≤_, _-_}
 use native.Mathlib.Omega.{arith}
 use lib.ListN.{length, take, drop, length-set, drop-of-length-le}
 use Rattle.xor.proofs.Writing.{next-written}
-use Rattle.chacha20.proofs.copy_front.Statement.{statement}
-use Rattle.chacha20.proofs.copy_front.Tie as tie
+use Rattle.blocks.proofs.copy_front.Statement.{statement}
+use Rattle.blocks.proofs.copy_front.Tie as tie
 
 -- after the last turn nothing of the old is left
 whole : (out old bytes : List ℕ) (i : ℕ) → length old ≤ i → i ≤ length old → out ≡ take i bytes ++ drop i old → out ≡ take (length old) bytes

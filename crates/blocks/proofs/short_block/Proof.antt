@@ -1,12 +1,12 @@
--- `chacha20::short_block` meets its contract. A whole block is made, and its first bytes copied. Assumes nothing.
+-- `blocks::short_block` meets its contract. A whole block is made, and its first bytes copied. Assumes nothing.
 use borrow.Author.Needs.{needs}
 use mathlib.Core.Path.{ap, _∙_}
 use mathlib.Core.List.{List}
 use Prim.Native.Nat.{ℕ}
 use lib.ListN.{length, take}
 use denote.Ref.{now}
-use Rattle.chacha20.proofs.short_block.Statement.{statement}
-use Rattle.chacha20.proofs.short_block.Tie as tie
+use Rattle.blocks.proofs.short_block.Statement.{statement}
+use Rattle.blocks.proofs.short_block.Tie as tie
 
 slice-aggregate-block : tie.Need-slice-aggregate-block
 slice-aggregate-block c = search needs
