@@ -154,7 +154,7 @@ fn read(path: &[u8], out: &mut [u8]) {
 fn compare(name: &[u8], seed: &[u8], stream: &[u8], out: &mut [u8])
     requires { ⌜ (length (now seed) ≡ 32) × (length (now out) ≤ 4096) ⌝ }
 {
-    rows::expand(seed, out);
+    one_row::expand(seed, out);
     io::write_all(STDOUT_FILENO, name);
     io::write_all(STDOUT_FILENO, b" seed, bytes ");
     io::print_decimal(STDOUT_FILENO, out.len() as u64);

@@ -1,4 +1,4 @@
--- `rows::expand` meets its contract. The loop's invariant: whole blocks are written up to `done`, the rest is as it was lent. Assumes nothing.
+-- `one_row::expand` meets its contract. The loop's invariant: whole blocks are written up to `done`, the rest is as it was lent. Assumes nothing.
 use mathlib.Core.Path.{_≡_, sym, _∙_}
 use Prim.Native.Nat.{_+_, _-_}
 use native.Mathlib.Omega.{arith}
@@ -8,8 +8,8 @@ use borrow.Rule.Slice.PartMut.{mid-len, same-len-mid}
 use Rattle.xor.specs.Xor.{zeros}
 use Rattle.chacha20.proofs.Stream.{blocks-is, expand-is}
 use Rattle.blocks.proofs.Written.{Written, start, next-blocks, cut}
-use Rattle.rows.proofs.expand.Statement.{statement}
-use Rattle.rows.proofs.expand.Tie as tie
+use Rattle.one_row.proofs.expand.Statement.{statement}
+use Rattle.one_row.proofs.expand.Tie as tie
 
 abbrev Inv-loop : tie.InvT-loop
 Inv-loop seed out₀ next₀ done₀ out next done = Written seed (zeros 12) 0 out₀ out next done

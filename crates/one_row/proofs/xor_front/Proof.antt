@@ -1,11 +1,11 @@
--- `rows::xor_front` meets its contract. The front is as long as the output. Assumes nothing.
+-- `one_row::xor_front` meets its contract. The front is as long as the output. Assumes nothing.
 use borrow.Author.Needs.{needs}
 use mathlib.Core.Path.{sym}
 use lib.ListN.{length}
 use lib.Seq.{length-take-le}
 use denote.Ref.{now}
-use Rattle.rows.proofs.xor_front.Statement.{statement}
-use Rattle.rows.proofs.xor_front.Tie as tie
+use Rattle.one_row.proofs.xor_front.Statement.{statement}
+use Rattle.one_row.proofs.xor_front.Tie as tie
 
 slice-aggregate-xor-into : tie.Need-slice-aggregate-xor-into
 slice-aggregate-xor-into c = let s = c .before .before .before .before in sym (length-take-le (length (now (s .args .out))) (now (s .args .blocks)) (s .pre))

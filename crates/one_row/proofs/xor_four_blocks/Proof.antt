@@ -1,4 +1,4 @@
--- `rows::xor_four_blocks` meets its contract. Four blocks are made, and their front XORed in. Assumes nothing.
+-- `one_row::xor_four_blocks` meets its contract. Four blocks are made, and their front XORed in. Assumes nothing.
 use borrow.Author.Needs.{needs}
 use mathlib.Core.Path.{ap, _∙_}
 use mathlib.Core.List.{List}
@@ -6,8 +6,8 @@ use Prim.Native.Nat.{ℕ}
 use lib.ListN.{length, take}
 use denote.Ref.{now}
 use Rattle.xor.specs.Xor.{xors}
-use Rattle.rows.proofs.xor_four_blocks.Statement.{statement}
-use Rattle.rows.proofs.xor_four_blocks.Tie as tie
+use Rattle.one_row.proofs.xor_four_blocks.Statement.{statement}
+use Rattle.one_row.proofs.xor_four_blocks.Tie as tie
 
 four-counters-requires : tie.Need-four-counters-requires
 four-counters-requires c κs = search needs

@@ -1,4 +1,4 @@
--- `rows::xor_row` meets its contract. The loop's invariant: the row is XORed in up to `done`, the rest is as it was lent. Assumes nothing.
+-- `one_row::xor_row` meets its contract. The loop's invariant: the row is XORed in up to `done`, the rest is as it was lent. Assumes nothing.
 use mathlib.Core.Path.{_≡_, refl, _∙_}
 use Prim.Native.Nat.{_-_}
 use native.Mathlib.Omega.{arith}
@@ -6,9 +6,9 @@ use lib.ListN.{length}
 use denote.Ref.{now}
 use borrow.Rule.Slice.PartMut.{mid-len, same-len-mid}
 use borrow.Author.Needs.{needs}
-use Rattle.rows.proofs.OneRow.{Xored, none-xored, next-four, ended, last-block}
-use Rattle.rows.proofs.xor_row.Statement.{statement}
-use Rattle.rows.proofs.xor_row.Tie as tie
+use Rattle.one_row.proofs.OneRow.{Xored, none-xored, next-four, ended, last-block}
+use Rattle.one_row.proofs.xor_row.Statement.{statement}
+use Rattle.one_row.proofs.xor_row.Tie as tie
 
 abbrev Inv-loop : tie.InvT-loop
 Inv-loop seed out₀ made₀ done₀ counter₀ out made done counter = (length made ≡ 256) × Xored seed out₀ out done counter

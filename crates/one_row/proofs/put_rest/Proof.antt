@@ -1,13 +1,13 @@
--- `rows::put_rest` meets its contract. At most a block by the scalar stream, more by four blocks and their front. Assumes nothing.
+-- `one_row::put_rest` meets its contract. At most a block by the scalar stream, more by four blocks and their front. Assumes nothing.
 use borrow.Author.Needs.{needs}
 use mathlib.Core.Path.{_∙_}
 use native.Mathlib.Omega.{arith}
 use lib.ListN.{length}
 use denote.Ref.{now}
 use Rattle.xor.specs.Xor.{zeros}
-use Rattle.rows.proofs.OneRow.{front-of-four}
-use Rattle.rows.proofs.put_rest.Statement.{statement}
-use Rattle.rows.proofs.put_rest.Tie as tie
+use Rattle.one_row.proofs.OneRow.{front-of-four}
+use Rattle.one_row.proofs.put_rest.Statement.{statement}
+use Rattle.one_row.proofs.put_rest.Tie as tie
 
 slice-aggregate-key-stream : tie.Need-slice-aggregate-key-stream
 slice-aggregate-key-stream c = search needs

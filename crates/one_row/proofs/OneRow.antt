@@ -14,7 +14,7 @@ use Rattle.chacha20.specs.Expand.{block, blocks, expand}
 use Rattle.chacha20.specs.Rfc8439.{chacha20-block, stream-blocks, key-stream}
 use Rattle.chacha20.proofs.Parts.{part-written}
 use Rattle.chacha20.proofs.Stream.{blocks-is, block-is, expand-is, word-expand, key-stream-of, take-key-stream, drop-key-stream}
-use Rattle.rows.specs.Rows.{Next-end}
+use Rattle.one_row.specs.OneRow.{Next-end}
 
 -- one block is the stream of one
 pub one-block : (c : ℕ) (seed made : List ℕ) → made ≡ chacha20-block seed c (zeros 12) → made ≡ blocks 1 c seed

@@ -1,4 +1,4 @@
--- `rows::xor_block` meets its contract. One block is made, and its front XORed in. Assumes nothing.
+-- `one_row::xor_block` meets its contract. One block is made, and its front XORed in. Assumes nothing.
 use borrow.Author.Needs.{needs}
 use mathlib.Core.Path.{ap, _∙_}
 use mathlib.Core.List.{List}
@@ -6,9 +6,9 @@ use Prim.Native.Nat.{ℕ}
 use lib.ListN.{length, take}
 use denote.Ref.{now}
 use Rattle.xor.specs.Xor.{xors, zeros}
-use Rattle.rows.proofs.OneRow.{one-block}
-use Rattle.rows.proofs.xor_block.Statement.{statement}
-use Rattle.rows.proofs.xor_block.Tie as tie
+use Rattle.one_row.proofs.OneRow.{one-block}
+use Rattle.one_row.proofs.xor_block.Statement.{statement}
+use Rattle.one_row.proofs.xor_block.Tie as tie
 
 slice-aggregate-block : tie.Need-slice-aggregate-block
 slice-aggregate-block c = search needs
