@@ -15,7 +15,7 @@ use Rattle.keys.specs.Answers.{checked-as, key-checked}
 use Rattle.keys.specs.declared.reader.Header.{Header}
 use Rattle.keys.specs.declared.check.KeyCheck.{KeyCheck}
 use Rattle.keys.proofs.Holding.{Accepted-as, refused-says}
-use Rattle.opening.specs.Shares as Opening
+use Rattle.opening.specs.Accepted as Opening
 use Rattle.entry.specs.Entry.{or-else, in-front, rule, key-rule, Open-one-says, Open-all-says}
 use Rattle.entry.proofs.Answering.{put-number, put-done, first-fits, next-fits}
 

@@ -16,7 +16,8 @@ use Rattle.keys.specs.Keys.{key-refusal, head-in, header, stride, row-part, ope
 use Rattle.keys.specs.Answers.{checked-as, key-checked}
 use Rattle.keys.specs.declared.reader.Header.{Header}
 use Rattle.keys.specs.declared.check.KeyCheck.{KeyCheck}
-use Rattle.opening.specs.Shares.{Accepted-with, in-front, shares}
+use Rattle.row_shares.specs.Shares.{shares}
+use Rattle.opening.specs.Accepted.{Accepted-with, in-front}
 use Rattle.opening.proofs.Tables.{opened-shares}
 use Rattle.keys.proofs.Accepted.{Body-in, key-in, body-in}
 use Rattle.keys.proofs.Holding.{accepted-says, row-place}

@@ -14,8 +14,8 @@ use Rattle.xor.proofs.Laws.{xors-assoc, xors-zeros-right}
 use Rattle.grid.specs.Grid.{Board, columns, grid-rows, row-long}
 use Rattle.keys.specs.Keys.{mark-bytes, stride}
 use Rattle.keys.specs.Held.{marked}
-use Rattle.opening.specs.Shares.{stretch}
-use Rattle.opening.specs.Words.{marked-words, row-words}
+use Rattle.row_shares.specs.Shares.{stretch}
+use Rattle.row_shares.specs.Words.{marked-words, row-words}
 
 -- a product of the code's numbers is that of the definition's
 pub products : (a b c d : ℕ) → a ≡ c → b ≡ d → a * b ≡ c * d

@@ -1,13 +1,13 @@
--- `opening::row_seeds` meets its contract. Assumes nothing.
+-- `row_shares::row_seeds` meets its contract. Assumes nothing.
 use Prim.Native.Nat.{_+_, _*_, _/_, _≤_}
 use native.Mathlib.Omega.{arith}
 use lib.ListN.{length}
 use denote.Ref.{now}
 use Rattle.grid.specs.Code.{board-of}
-use Rattle.opening.proofs.Columns.{seeds-fit, seeds-are}
+use Rattle.row_shares.proofs.Columns.{seeds-fit, seeds-are}
 use borrow.Author.Needs.{needs}
-use Rattle.opening.proofs.row_seeds.Statement.{statement}
-use Rattle.opening.proofs.row_seeds.Tie as tie
+use Rattle.row_shares.proofs.row_seeds.Statement.{statement}
+use Rattle.row_shares.proofs.row_seeds.Tie as tie
 
 -- the seeds lie in the part
 there : (c : tie.After-columns) → c .before .mark-bytes .result + 32 * (c .columns .result / 2) ≤ length (now (c .before .before .before .args .part))

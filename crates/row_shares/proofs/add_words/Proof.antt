@@ -1,4 +1,4 @@
--- `opening::add_words` meets its contract. The loop's invariant: what is in `out`, with the words of the marked columns that are left, is all of them
+-- `row_shares::add_words` meets its contract. The loop's invariant: what is in `out`, with the words of the marked columns that are left, is all of them
 -- XORed into what was. Assumes nothing.
 use mathlib.Core.Path.{_≡_, refl, sym, _∙_}
 use mathlib.Core.Bool.{true}
@@ -10,11 +10,11 @@ use denote.Ref.{now}
 use borrow.Author.Needs.{needs}
 use Rattle.xor.specs.Xor.{xors, bytes-good}
 use Rattle.xor.proofs.Laws.{good-by-entries}
-use Rattle.opening.specs.Shares.{stretch}
-use Rattle.opening.specs.Words.{marked-words}
-use Rattle.opening.proofs.Columns.{part-long, part-whole, word-fits, words-turn, words-end}
-use Rattle.opening.proofs.add_words.Statement.{statement}
-use Rattle.opening.proofs.add_words.Tie as tie
+use Rattle.row_shares.specs.Shares.{stretch}
+use Rattle.row_shares.specs.Words.{marked-words}
+use Rattle.row_shares.proofs.Columns.{part-long, part-whole, word-fits, words-turn, words-end}
+use Rattle.row_shares.proofs.add_words.Statement.{statement}
+use Rattle.row_shares.proofs.add_words.Tie as tie
 
 abbrev Inv-loop : tie.InvT-loop
 Inv-loop part columns words row-bytes from out₀ column₀ out column =

@@ -18,9 +18,9 @@ use Rattle.grid.specs.Grid.{Board, columns, grid-rows, row-long}
 use Rattle.grid.proofs.Cells.{drop-zeros}
 use Rattle.keys.specs.Keys.{mark-bytes, count-marks, stride, word-behind}
 use Rattle.keys.specs.Held.{marked}
-use Rattle.opening.specs.Shares.{stretch, shares, shares-from}
-use Rattle.opening.specs.Words.{marked-words, row-words}
-use Rattle.opening.proofs.Stretches.{stretch-within}
+use Rattle.row_shares.specs.Shares.{stretch, shares, shares-from}
+use Rattle.row_shares.specs.Words.{marked-words, row-words}
+use Rattle.row_shares.proofs.Stretches.{stretch-within}
 
 -- a column's word and row, and what the others add, word by word and row by row
 sorted : (xs word row words rows : List ℕ) → xors (xors xs (xors word row)) (xors words rows) ≡ xors xs (xors (xors word words) (xors row rows))

@@ -1,12 +1,12 @@
--- `opening::add_if` meets its contract. Assumes nothing.
+-- `row_shares::add_if` meets its contract. Assumes nothing.
 use mathlib.Core.Path.{_≡_}
 use mathlib.Core.Bool.{Bool, true, cond}
 use mathlib.Core.List.{List}
 use Prim.Native.Nat.{ℕ}
 use denote.Ref.{now}
 use borrow.Author.Needs.{needs}
-use Rattle.opening.proofs.add_if.Statement.{statement}
-use Rattle.opening.proofs.add_if.Tie as tie
+use Rattle.row_shares.proofs.add_if.Statement.{statement}
+use Rattle.row_shares.proofs.add_if.Tie as tie
 
 -- where the column is marked, the first way is taken
 taken : (t : Bool) (with without new : List ℕ) → t ≡ true → new ≡ with → new ≡ cond t with without

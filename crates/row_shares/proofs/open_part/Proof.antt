@@ -1,4 +1,4 @@
--- `opening::open_part` meets its contract: the rows' stretch and the words, one after the other, are the shares. Assumes nothing.
+-- `row_shares::open_part` meets its contract: the rows' stretch and the words, one after the other, are the shares. Assumes nothing.
 use mathlib.Core.Path.{_≡_, sym, ap, _∙_}
 use Prim.Native.Nat.{_+_, _≤_}
 use native.Mathlib.Omega.{arith}
@@ -10,11 +10,11 @@ use Rattle.grid.specs.Code.{board-of}
 use Rattle.grid.proofs.Facts.{board-in}
 use Rattle.grid.proofs.Sizes.{row-most}
 use Rattle.keys.specs.Keys.{stride}
-use Rattle.opening.proofs.Columns.{rest-long, row-there}
-use Rattle.opening.proofs.Halves.{part-opened}
+use Rattle.row_shares.proofs.Columns.{rest-long, row-there}
+use Rattle.row_shares.proofs.Halves.{part-opened}
 use borrow.Author.Needs.{needs}
-use Rattle.opening.proofs.open_part.Statement.{statement}
-use Rattle.opening.proofs.open_part.Tie as tie
+use Rattle.row_shares.proofs.open_part.Statement.{statement}
+use Rattle.row_shares.proofs.open_part.Tie as tie
 
 -- the grid row is there
 there : (s : tie.Start) → stride (board-of (s .args .board)) ≤ length (now (s .args .part))

@@ -1,4 +1,4 @@
--- `opening::add_row_words` meets its contract. Assumes nothing.
+-- `row_shares::add_row_words` meets its contract. Assumes nothing.
 use mathlib.Core.Path.{_≡_, ap, _∙_}
 use Prim.Native.Nat.{ℕ, _*_, _-_}
 use native.Mathlib.Omega.{arith}
@@ -7,10 +7,10 @@ use denote.Ref.{now}
 use Rattle.grid.specs.Grid.{grid-rows}
 use Rattle.grid.specs.Code.{board-of}
 use Rattle.keys.specs.Keys.{stride}
-use Rattle.opening.proofs.Columns.{products, words-there, words-added}
+use Rattle.row_shares.proofs.Columns.{products, words-there, words-added}
 use borrow.Author.Needs.{needs}
-use Rattle.opening.proofs.add_row_words.Statement.{statement}
-use Rattle.opening.proofs.add_row_words.Tie as tie
+use Rattle.row_shares.proofs.add_row_words.Statement.{statement}
+use Rattle.row_shares.proofs.add_row_words.Tie as tie
 
 -- the words begin where the definition has them
 place : (c : tie.After-stride) → let a = c .before .before .before .before .args in

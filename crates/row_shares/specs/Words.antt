@@ -7,7 +7,7 @@ use Rattle.xor.specs.Xor.{xors, zeros}
 use Rattle.grid.specs.Grid.{Board, columns, grid-rows, row-long}
 use Rattle.keys.specs.Keys.{stride}
 use Rattle.keys.specs.Held.{marked}
-use Rattle.opening.specs.Shares.{stretch}
+use Rattle.row_shares.specs.Shares.{stretch}
 
 -- the XOR of the words of the columns from j on that are marked in `part`, n bytes of each from byte s on; words of l bytes stand one after another
 unfoldable pub marked-words : (left j : ℕ) → (part words : List ℕ) → (l s n : ℕ) → List ℕ

@@ -1,4 +1,4 @@
--- `opening::add_part` meets its contract: rows and words, one after the other, are the shares. Assumes nothing.
+-- `row_shares::add_part` meets its contract: rows and words, one after the other, are the shares. Assumes nothing.
 use Prim.Native.Nat.{_≤_}
 use native.Mathlib.Omega.{arith}
 use lib.ListN.{length}
@@ -7,11 +7,11 @@ use Rattle.grid.specs.Code.{board-of}
 use Rattle.grid.proofs.Facts.{board-in}
 use Rattle.grid.proofs.Sizes.{row-most}
 use Rattle.keys.specs.Keys.{stride}
-use Rattle.opening.proofs.Columns.{row-there}
-use Rattle.opening.proofs.Halves.{part-added}
+use Rattle.row_shares.proofs.Columns.{row-there}
+use Rattle.row_shares.proofs.Halves.{part-added}
 use borrow.Author.Needs.{needs}
-use Rattle.opening.proofs.add_part.Statement.{statement}
-use Rattle.opening.proofs.add_part.Tie as tie
+use Rattle.row_shares.proofs.add_part.Statement.{statement}
+use Rattle.row_shares.proofs.add_part.Tie as tie
 
 -- the grid row is there
 there : (s : tie.Start) → stride (board-of (s .args .board)) ≤ length (now (s .args .part))

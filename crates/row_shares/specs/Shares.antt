@@ -1,16 +1,13 @@
 -- What is worked out of the part of a key that begins at a grid row: the shares of that grid row, or any stretch of their bytes. Open one
 -- wants the stretch of one cell, Open all the cells of a grid row that are below N. Quotations are document 01's.
 -- Assumes nothing: these are definitions.
-use mathlib.Core.Path.{_≡_}
 use mathlib.Core.Bool.{cond}
-use mathlib.Core.List.{List, _++_}
+use mathlib.Core.List.{List}
 use Prim.Native.Nat.{ℕ, zero, suc, _+_, _*_}
-use lib.ListN.{length, take, drop}
+use lib.ListN.{take, drop}
 use Rattle.xor.specs.Xor.{xors, zeros}
 use Rattle.grid.specs.Grid.{Board, columns}
-use Rattle.grid.specs.Code.{board-of}
-use Rattle.keys.specs.Keys.{mark-bytes, word-behind, key-refusal, head-in}
-use Rattle.keys.specs.declared.reader.Header.{Header}
+use Rattle.keys.specs.Keys.{mark-bytes, word-behind}
 use Rattle.keys.specs.Held.{marked}
 
 -- n bytes of a row or of a word, from byte s on; "cell c of a row or word is the w bytes from c × w on"
@@ -28,13 +25,3 @@ shares-from (suc k) j q b f ps g s n xs =
 
 unfoldable pub shares : Board → (rule : List ℕ → List ℕ) → (part : List ℕ) → (g s n : ℕ) → List ℕ
 shares b f ps g s n = shares-from (columns b) 0 0 b f ps g s n (zeros n)
-
--- "An accepted key gives its header numbers": a key that Check key accepts, with the numbers of its header
-pub record Accepted-with (ks : List ℕ) (h : Header) : Type 0 where
-  pub accepted : key-refusal ks ≡ 0
-  pub board-is : head-in ks .board ≡ board-of (h .board)
-  pub player-is : head-in ks .player ≡ h .player
-
--- "output past the bytes named keeps its bytes"
-abbrev pub in-front : (new old : List ℕ) → List ℕ
-in-front new old = new ++ drop (length new) old

@@ -13,7 +13,7 @@ use Rattle.grid.proofs.Cells.{take-zeros, drop-zeros}
 use Rattle.grid.specs.Grid.{Board, columns, row-long}
 use Rattle.keys.specs.Keys.{mark-bytes, word-behind}
 use Rattle.keys.specs.Held.{marked}
-use Rattle.opening.specs.Shares.{stretch, shares, shares-from}
+use Rattle.row_shares.specs.Shares.{stretch, shares, shares-from}
 
 -- a stretch of an XOR is the XOR of the stretches
 pub stretch-xors : (s n : ℕ) (xs ys : List ℕ) → stretch s n (xors xs ys) ≡ xors (stretch s n xs) (stretch s n ys)
