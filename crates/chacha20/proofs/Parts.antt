@@ -1,12 +1,11 @@
--- A list that is written part by part from the front, the sums of two states, and the bytes of a state written so. Assumes nothing.
-use mathlib.Core.Path.{_≡_, refl, sym, ap, _∙_}
-use mathlib.Core.List.{List, [], _∷_, _++_, append-assoc, append-nil}
+-- A list that is written part by part from the front, the sums of two states, and how many bytes words have. Assumes nothing.
+use mathlib.Core.Path.{_≡_, refl, sym, ap}
+use mathlib.Core.List.{List, [], _∷_, _++_, append-assoc}
 use Prim.Native.Nat.{ℕ, zero, suc, _+_, _*_, _-_, _<_, _≤_}
 use native.Mathlib.Omega.{arith}
 use native.Mathlib.Nat.{not-suc-le-zero}
-use native.Mathlib.Numerals.{add-one}
-use lib.ListN.{length, getD, take, drop, drop-of-length-le}
-use lib.Seq.{take-at, drop-at, drop-drop, take-suc, take-all, length-take-le}
+use lib.ListN.{length, getD, drop}
+use lib.Seq.{take-at, drop-at, drop-drop}
 use borrow.Rule.Slice.PartMut.{putMid}
 use Rattle.chacha20.specs.Expand.{add, sums, low-bytes}
 
@@ -40,24 +39,3 @@ pub length-low-bytes : (xs : List ℕ) → length (low-bytes xs) ≡ 4 * length 
 unfolding low-bytes
 length-low-bytes [] = refl
 length-low-bytes (x ∷ xs) = omega (arith, length-low-bytes xs)
-
-low-bytes-append : (xs ys : List ℕ) → low-bytes (xs ++ ys) ≡ low-bytes xs ++ low-bytes ys
-unfolding low-bytes
-low-bytes-append [] ys = refl
-low-bytes-append (x ∷ xs) ys = rw (low-bytes-append xs ys)
-
--- a turn of the loop that serializes a state: the next word's bytes are written
-module _ (words old out part : List ℕ) (i : ℕ) (long : length words ≡ 16) where
-  pub next-word : i < 16 → out ≡ low-bytes (take i words) ++ drop (4 * i) old → part ≡ low-bytes (getD words i 0 ∷ []) →
-      putMid (4 * i) (4 * i + 4 - 4 * i) out part ≡ low-bytes (take (i + 1) words) ++ drop (4 * (i + 1)) old
-  next-word h so-far part-is =
-      let front : length (low-bytes (take i words)) ≡ 4 * i = length-low-bytes (take i words) ∙ ap (λ (n : ℕ). 4 * n) (length-take-le i words (omega arith)) in
-      let next : 4 * (i + 1) ≡ 4 * i + 4 = omega arith in
-      part-written (low-bytes (take i words)) old out part (4 * i) (4 * i + 4) front (omega arith) so-far
-      ∙ rw (part-is, next, add-one i, take-suc words i 0 (omega arith), low-bytes-append (take i words) (getD words i 0 ∷ []))
-
-  -- after the last turn all words are written
-  pub all-words : i ≡ 16 → length old ≡ 64 → out ≡ low-bytes (take i words) ++ drop (4 * i) old → out ≡ low-bytes words
-  all-words h whole so-far =
-      so-far
-      ∙ rw (take-all i words (omega arith), drop-of-length-le old {i = 4 * i} (omega arith)) (append-nil (low-bytes words))

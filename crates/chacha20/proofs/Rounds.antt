@@ -4,8 +4,7 @@ use mathlib.Core.Path.{_≡_}
 use mathlib.Core.List.{List}
 use Prim.Native.Nat.{ℕ, suc, _+_, _-_, _<_, _≤_}
 use native.Mathlib.Omega.{arith}
-use Rattle.chacha20.specs.Expand.{mixed, quarter, double-round, rounds, sums, low-bytes}
-use Rattle.chacha20.specs.Rfc8439.{opening-state, chacha20-block}
+use Rattle.chacha20.specs.Expand.{mixed, quarter, double-round, rounds}
 
 pub four-half-steps : (a b c d : ℕ) (s s₁ s₂ s₃ s₄ : List ℕ) → s₁ ≡ mixed a b d 16 s → s₂ ≡ mixed c d b 12 s₁ → s₃ ≡ mixed a b d 8 s₂ → s₄ ≡ mixed c d b 7 s₃ →
     s₄ ≡ quarter a b c d s
@@ -25,9 +24,3 @@ unfolding rounds
 no-round-left done s s₀ h so-far =
     let left : 10 - done ≡ 0 = omega arith in
     rw left at so-far
-
--- the block function's four steps
-pub four-steps : (key nonce : List ℕ) (counter : ℕ) (initial state summed out : List ℕ) →
-    initial ≡ opening-state key counter nonce → state ≡ rounds 10 initial → summed ≡ sums state initial → out ≡ low-bytes summed → out ≡ chacha20-block key counter nonce
-unfolding chacha20-block
-four-steps key nonce counter initial state summed out p q r s = rw (s, r, q, p)

@@ -1,13 +1,12 @@
-// ChaCha20 by RFC 8439, to be held beside it: section 2.1's quarter round, 2.3's double round and block function, 2.4's key stream,
-// under the RFC's names and in its order. Document 01's rows are the key stream with the seed as key, the nonce twelve zeros and the
-// block counter from 0: crate rows makes them. The meanings stand in specs/Expand.antt and specs/Rfc8439.antt, and specs/Lines.antt has the
-// lines that are stepped together for speed. Assumes nothing.
+// ChaCha20 by RFC 8439, to be held beside it: section 2.1's quarter round and 2.3's twenty rounds, under the RFC's names and in its order.
+// Crate state_words makes the state that they start from and serializes the one that they end with, crate blocks has 2.3's block function
+// and 2.4's key stream. Document 01's rows are the key stream with the seed as key, the nonce twelve zeros and the block counter from 0:
+// crate one_row makes them. The meanings of all of it stand in specs/Expand.antt and specs/Rfc8439.antt, and specs/Lines.antt has the lines
+// that are stepped together for speed. Assumes nothing.
 ghost use mathlib.Core.Path.{_≡_};
-ghost use Prim.Native.Nat.{_+_, _/_, _^_, _<_, _≤_};
-ghost use mathlib.Core.List.{[], _∷_};
-ghost use lib.ListN.{length, take};
-ghost use Rattle.chacha20.specs.Expand.{turned, xor-word, mixed, double-round, rounds, word-at, sums, low-bytes};
-ghost use Rattle.chacha20.specs.Rfc8439.{Places, quarter-at, opening-state, chacha20-block, key-stream};
+ghost use Prim.Native.Nat.{_<_};
+ghost use Rattle.chacha20.specs.Expand.{turned, xor-word, mixed, double-round, rounds};
+ghost use Rattle.chacha20.specs.Rfc8439.{Places, quarter-at};
 ghost use Rattle.chacha20.specs.Lines.{odd-lines, even-lines, Lines};
 
 // 2.3: the quarter rounds of a double round, each by its four places in the state: a column round, then a diagonal round.
@@ -144,7 +143,7 @@ fn word_by_word(state: [u32; 16]) -> [u32; 16]
 }
 
 // 2.3: twenty rounds
-fn twenty_rounds(initial: [u32; 16]) -> [u32; 16]
+pub fn twenty_rounds(initial: [u32; 16]) -> [u32; 16]
     ensures { λ r. ⌜ r ≡ rounds 10 initial ⌝ }
 {
     let mut state = initial;
@@ -156,139 +155,4 @@ fn twenty_rounds(initial: [u32; 16]) -> [u32; 16]
         done += 1;
     }
     state
-}
-
-// 2.3: one word, its lowest byte first
-fn put_word(word: u32, out: &mut [u8])
-    requires { ⌜ length (now out) ≡ 4 ⌝ }
-    ensures { λ r. ⌜ now (out .exit) ≡ low-bytes (word ∷ []) ⌝ }
-{
-    out[0] = (word % 256) as u8;
-    out[1] = (word / 256 % 256) as u8;
-    out[2] = (word / 65536 % 256) as u8;
-    out[3] = (word / 16777216) as u8;
-}
-
-// 2.3: word by word, the input words added to the output words
-pub fn add_into(out: &mut [u32], input: &[u32])
-    requires { ⌜ length (now out) ≡ length (now input) ⌝ }
-    ensures { λ r. ⌜ now (out .exit) ≡ sums (now (out .entry)) (now (input .entry)) ⌝ }
-{
-    let mut i: usize = 0;
-    while i < out.len() {
-        let sum = std::num::wrapping_add_u32(out[i], input[i]);
-        out[i] = sum;
-        i += 1;
-    }
-}
-
-// 2.3: a state's words, serialized one by one
-pub fn serialize(state: [u32; 16], out: &mut [u8])
-    requires { ⌜ length (now out) ≡ 64 ⌝ }
-    ensures { λ r. ⌜ now (out .exit) ≡ low-bytes state ⌝ }
-{
-    let mut i: usize = 0;
-    while i < 16 {
-        let from = 4 * i;
-        let to = from + 4;
-        put_word(state[i], &mut out[from..to]);
-        i += 1;
-    }
-}
-
-// 2.3: four bytes as a little-endian word
-fn word_of(first: u8, second: u8, third: u8, fourth: u8) -> u32
-    ensures { λ r. ⌜ r ≡ word-at (first ∷ second ∷ third ∷ fourth ∷ []) 0 ⌝ }
-{
-    first as u32 + 256 * (second as u32) + 65536 * (third as u32) + 16777216 * (fourth as u32)
-}
-
-// 2.3: the word whose first byte has the given place
-fn load(bytes: &[u8], place: usize) -> u32
-    requires { ⌜ place + 4 ≤ length (now bytes) ⌝ }
-    ensures { λ r. ⌜ r ≡ word-at (now (bytes .entry)) place ⌝ }
-{
-    word_of(
-        bytes[place],
-        bytes[place + 1],
-        bytes[place + 2],
-        bytes[place + 3],
-    )
-}
-
-// 2.3: the constant, the key, the block counter and the nonce
-pub fn initial_state(key: &[u8], counter: u32, nonce: &[u8]) -> [u32; 16]
-    requires { ⌜ (length (now key) ≡ 32) × (length (now nonce) ≡ 12) ⌝ }
-    ensures { λ r. ⌜ r ≡ opening-state (now (key .entry)) counter (now (nonce .entry)) ⌝ }
-{
-    let constant = b"expand 32-byte k";
-    [
-        load(constant, 0),
-        load(constant, 4),
-        load(constant, 8),
-        load(constant, 12),
-        load(key, 0),
-        load(key, 4),
-        load(key, 8),
-        load(key, 12),
-        load(key, 16),
-        load(key, 20),
-        load(key, 24),
-        load(key, 28),
-        counter,
-        load(nonce, 0),
-        load(nonce, 4),
-        load(nonce, 8),
-    ]
-}
-
-// 2.3.1, chacha20_block: one block of 64 bytes by key, block counter and nonce
-pub fn block(key: &[u8], counter: u32, nonce: &[u8], out: &mut [u8])
-    requires { ⌜ (length (now key) ≡ 32) × (length (now nonce) ≡ 12) × (length (now out) ≡ 64) ⌝ }
-    ensures { λ r. ⌜ now (out .exit) ≡ chacha20-block (now (key .entry)) counter (now (nonce .entry)) ⌝ }
-{
-    let initial = initial_state(key, counter, nonce);
-    let mut state = twenty_rounds(initial);
-    add_into(&mut state, &initial);
-    serialize(state, out);
-}
-
-// Copies the first bytes of `bytes` into `out`, as many as it has room for.
-pub fn copy_front(bytes: &[u8], out: &mut [u8])
-    requires { ⌜ length (now out) ≤ length (now bytes) ⌝ }
-    ensures { λ r. ⌜ now (out .exit) ≡ take (length (now (out .entry))) (now (bytes .entry)) ⌝ }
-{
-    let mut i: usize = 0;
-    while i < out.len() {
-        out[i] = bytes[i];
-        i += 1;
-    }
-}
-
-// 2.4: a block of which only the first bytes are wanted
-fn short_block(key: &[u8], counter: u32, nonce: &[u8], out: &mut [u8])
-    requires { ⌜ (length (now key) ≡ 32) × (length (now nonce) ≡ 12) × (length (now out) ≤ 64) ⌝ }
-    ensures { λ r. ⌜ now (out .exit) ≡ take (length (now (out .entry))) (chacha20-block (now (key .entry)) counter (now (nonce .entry))) ⌝ }
-{
-    let mut whole = [0u8; 64];
-    block(key, counter, nonce, &mut whole);
-    copy_front(&whole, out);
-}
-
-// 2.4: the key stream from the block of `counter` on, block by block, the last one cut where `out` ends. The counter stays a word.
-pub fn key_stream(key: &[u8], counter: u32, nonce: &[u8], out: &mut [u8])
-    requires { ⌜ (length (now key) ≡ 32) × (length (now nonce) ≡ 12) × (counter + (length (now out) + 63) / 64 < 2 ^ 32) ⌝ }
-    ensures { λ r. ⌜ now (out .exit) ≡ key-stream (length (now (out .entry))) counter (now (key .entry)) (now (nonce .entry)) ⌝ }
-{
-    let mut next = counter;
-    let mut done: usize = 0;
-    while 64 <= out.len() - done {
-        let end = done + 64;
-        block(key, next, nonce, &mut out[done..end]);
-        done = end;
-        next += 1;
-    }
-    if done < out.len() {
-        short_block(key, next, nonce, &mut out[done..]);
-    }
 }

@@ -94,7 +94,7 @@ fn serialize(states: &[u32], out: &mut [u8])
         let from = 64 * l;
         let to = from + 64;
         let state = lane(states, l);
-        chacha20::serialize(state, &mut out[from..to]);
+        state_words::serialize(state, &mut out[from..to]);
         l += 1;
     }
 }
@@ -106,7 +106,7 @@ fn four_blocks(initial: [u32; 64], out: &mut [u8])
 {
     let mut states = initial;
     twenty_rounds(&mut states);
-    chacha20::add_into(&mut states, &initial);
+    state_words::add_into(&mut states, &initial);
     serialize(&states, out);
 }
 
@@ -119,7 +119,7 @@ fn open_counters(seed: &[u8], counter: u32, states: &mut [u32])
     let mut next = counter;
     let mut l: usize = 0;
     while l < 4 {
-        let words = chacha20::initial_state(seed, next, &nonce);
+        let words = state_words::initial_state(seed, next, &nonce);
         put_lane(states, l, words);
         next += 1;
         l += 1;
@@ -136,7 +136,7 @@ fn open_seeds(seeds: &[u8], states: &mut [u32])
     while l < 4 {
         let from = 32 * l;
         let to = from + 32;
-        let words = chacha20::initial_state(&seeds[from..to], 0, &nonce);
+        let words = state_words::initial_state(&seeds[from..to], 0, &nonce);
         put_lane(states, l, words);
         l += 1;
     }

@@ -87,6 +87,6 @@ pub fn expand_seed(seed: &[u8], output: &mut [u8]) -> u32
     if MOST_ROW_BYTES < output.len() {
         return REFUSED_EXPANSION;
     }
-    rows::expand(seed, output);
+    one_row::expand(seed, output);
     ACCEPTED
 }

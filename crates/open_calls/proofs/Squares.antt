@@ -15,7 +15,7 @@ use Rattle.key_check.specs.Checked.{checked-as, key-checked}
 use Rattle.key_reading.specs.declared.Header.{Header}
 use Rattle.key_check.specs.declared.check.KeyCheck.{KeyCheck}
 use Rattle.key_check.proofs.Says.{Accepted-as, refused-says}
-use Rattle.opening.specs.Shares as Opening
+use Rattle.opening.specs.Accepted as Opening
 use Rattle.entry.specs.Entry.{or-else, in-front, rule, key-rule, Open-one-says, Open-all-says}
 use Rattle.entry.proofs.Answering.{put-number, put-done, first-fits, next-fits}
 

@@ -16,7 +16,8 @@ use Rattle.keys.specs.Keys.{key-refusal, head-in, header, stride, row-part, ope
 use Rattle.key_check.specs.Checked.{checked-as, key-checked}
 use Rattle.key_reading.specs.declared.Header.{Header}
 use Rattle.key_check.specs.declared.check.KeyCheck.{KeyCheck}
-use Rattle.opening.specs.Shares.{Accepted-with, in-front, shares}
+use Rattle.row_shares.specs.Shares.{shares}
+use Rattle.opening.specs.Accepted.{Accepted-with, in-front}
 use Rattle.opening.proofs.Tables.{opened-shares}
 use Rattle.keys.proofs.Accepted.{Body-in, key-in, body-in}
 use Rattle.keys.proofs.Holding.{row-place}

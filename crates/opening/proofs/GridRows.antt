@@ -19,7 +19,7 @@ use Rattle.grid.proofs.Facts.{Board-in}
 use Rattle.keys.specs.Keys.{count-marks, stride, row-part, Parts, parts-of, share-by-parts, table-from}
 use Rattle.keys.proofs.Accepted.{Body-in, body-parts}
 use Rattle.keys.proofs.Opening.{tests-at, share-word, table-row}
-use Rattle.opening.specs.Shares.{shares}
+use Rattle.row_shares.specs.Shares.{shares}
 use Rattle.opening.proofs.Tables.{grid-row-table}
 
 -- expansion is a rule that gives each seed a row's bytes

@@ -1,8 +1,4 @@
--- The laws that the functions cite: stretches of bytes, one column after another, words and rows apart, and full tables grid row by grid row.
--- Assumes nothing.
-pub mod Stretches
-pub mod Columns
-pub mod Halves
+-- The laws that the functions cite: full tables grid row by grid row, accepted keys, and where a grid row stands. Assumes nothing.
 pub mod Tables
 pub mod Bodies
 pub mod GridRows

@@ -17,8 +17,8 @@ use Rattle.keys.proofs.Accepted.{Body-in}
 use Rattle.keys.proofs.Opening.{opened-part-is}
 use Rattle.keys.specs.Keys.{row-part, opened-from, opened-part, Parts, parts-of, share-by-parts, table-from}
 use Rattle.keys.specs.Held.{marked}
-use Rattle.opening.specs.Shares.{stretch, shares, shares-from}
-use Rattle.opening.proofs.Stretches.{shares-stretch}
+use Rattle.row_shares.specs.Shares.{stretch, shares, shares-from}
+use Rattle.row_shares.proofs.Stretches.{shares-stretch}
 
 -- ONE SQUARE: document 03's opening of a square is the stretch of its cell
 

@@ -12,7 +12,7 @@ use Rattle.chacha20.specs.Expand.{block, expand}
 use Rattle.chacha20.proofs.Stream.{block-is, word-block}
 use Rattle.lanes.specs.Lanes.{first-blocks}
 use Rattle.rows.specs.Rows.{rows-joined}
-use Rattle.rows.proofs.OneRow.{short-row}
+use Rattle.one_row.proofs.OneRow.{short-row}
 use Rattle.rows.proofs.Joined.{rows-add}
 use Rattle.rows.proofs.Seeds.{rows-of-front}
 

@@ -1,4 +1,3 @@
-pub mod OneRow
 pub mod Joined
 pub mod Seeds
 pub mod Fours

@@ -1,7 +1,6 @@
 -- The rows of seeds that stand one after another, XORed. Assumes nothing: these are definitions.
 use mathlib.Core.List.{List}
-use mathlib.Core.Path.{_≡_}
-use Prim.Native.Nat.{ℕ, zero, suc, _+_, _<_, _≤_}
+use Prim.Native.Nat.{ℕ, zero, suc}
 use lib.ListN.{take, drop}
 use Rattle.xor.specs.Xor.{xors, zeros}
 use Rattle.chacha20.specs.Expand.{expand}
@@ -10,10 +9,3 @@ use Rattle.chacha20.specs.Expand.{expand}
 unfoldable pub rows-joined : (left n : ℕ) → (seeds : List ℕ) → List ℕ
 rows-joined zero n ss = zeros n
 rows-joined (suc k) n ss = xors (expand n (take 32 ss)) (rows-joined k n (drop 32 ss))
-
--- of a row of `all` bytes, the four blocks that begin at `done` end at `end`, or the row does
-pub record Next-end (done all end : ℕ) : Type 0 where
-  pub behind : done < end
-  pub within : end ≤ all
-  pub most : end ≤ done + 256
-  pub whole : end < all → end ≡ done + 256

@@ -79,7 +79,7 @@ fn block(name: &[u8], key: &[u8], counter: u32, nonce: &[u8], expected: &[u8])
     requires { ⌜ (length (now key) ≡ 32) × (length (now nonce) ≡ 12) ⌝ }
 {
     let mut out = [0u8; 64];
-    chacha20::block(key, counter, nonce, &mut out);
+    blocks::block(key, counter, nonce, &mut out);
     io::write_all(STDOUT_FILENO, b"RFC 8439 ");
     io::write_all(STDOUT_FILENO, name);
     found(check::same(&out, expected));
@@ -154,7 +154,7 @@ fn read(path: &[u8], out: &mut [u8]) {
 fn compare(name: &[u8], seed: &[u8], stream: &[u8], out: &mut [u8])
     requires { ⌜ (length (now seed) ≡ 32) × (length (now out) ≤ 4096) ⌝ }
 {
-    rows::expand(seed, out);
+    one_row::expand(seed, out);
     io::write_all(STDOUT_FILENO, name);
     io::write_all(STDOUT_FILENO, b" seed, bytes ");
     io::print_decimal(STDOUT_FILENO, out.len() as u64);
