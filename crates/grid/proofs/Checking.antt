@@ -1,30 +1,36 @@
--- The check of arrays, one turn of each loop at a time: the ones of a column, a column among others, an array's columns, the
--- arrays of the grid rows. `drop i` of a list is what a loop has left of it at place i.
+-- The check of arrays: columns as bits of a number, then one turn of each loop at a time, an array's columns and the arrays of the grid
+-- rows. `drop i` of a list is what a loop has left of it at place i.
 -- Assumes nothing.
-use mathlib.Core.Path.{_≡_, refl, sym, _∙_, subst, subst⁻¹}
-use mathlib.Core.Bool.{Bool, true, false, _&&_, not, cond, Bool·beq}
-use mathlib.Core.List.{List, [], _∷_}
+use mathlib.Core.Path.{_≡_, refl, sym, ap, _∙_, subst⁻¹}
+use mathlib.Core.Bool.{Bool, true, false, _&&_, not, cond, false≢true}
+use mathlib.Core.List.{List}
 use Prim.Native.Nat.{ℕ, zero, suc, _+_, _*_, _-_, _/_, _%_, _^_, _≤_, _<_}
-use native.Mathlib.Nat.{le-refl, not-suc-le-zero, mul-le-mul-right, zero-mul, suc-mul, sub-zero, add-sub-cancel-left}
+use native.Mathlib.Nat.{not-suc-le-zero, mul-le-mul-right, zero-mul, suc-mul, sub-zero, add-sub-cancel-left, mod-eq-of-lt, div-eq-of-lt, lt-of-lt-of-le}
 use native.Mathlib.Numerals.{add-one}
 use native.Mathlib.Omega.{arith}
 use lib.Bits.{bitXor}
 use lib.Dec.{ltb, eqb}
-use lib.ListN.{length, getD, take, drop, length-drop, drop-of-length-le}
-use lib.Seq.{drop-cons, drop-drop, take-all}
-use borrow.Author.Tests.{eq-eqb, ne-eqb, eqb-true, eqb-false, lt-ltb, le-ltb}
+use lib.ListN.{length, getD, take, drop, drop-of-length-le}
+use lib.Pow.{pow-mono}
+use lib.Seq.{drop-cons, drop-drop}
+use borrow.Author.Tests.{eqb-true, eqb-false, ltb-true, ltb-false}
 use Rattle.xor.proofs.Laws.{and-left, and-right}
-use Rattle.grid.specs.Grid.{Board, columns, grid-rows, ones, is-odd, same-parity, member, array-good, arrays-good}
+use Rattle.grid.specs.Grid.{Board, columns, grid-rows, bit, ones, is-odd, same-parity, array-good, arrays-good}
+use Rattle.grid.specs.Moving.{turned}
+use Rattle.grid.specs.Checking.{columns-that, fitting}
 use Rattle.grid.proofs.Refusing.{passed, failed}
 use Rattle.grid.proofs.Counting.{one-left}
+use Rattle.grid.proofs.Columns.{turned-by-xor}
+use Rattle.grid.proofs.Crossing.{all-free}
 
--- A COLUMN'S ONES
+-- COLUMNS AS BITS
 
--- the two halves of a byte XORed, then the quarters, then the eighths: one bit is left, and it is the parity
-abbrev pub folded-odd : ℕ → Bool
-folded-odd v =
-    let halves = bitXor v (v / 16) in
-    let quarters = bitXor halves (halves / 4) in eqb (bitXor quarters (quarters / 2) % 2) 1
+-- columns below a limit, by the limit's power of two, and by nothing where the limit is past the number's width
+pub below-power : (v limit power : ℕ) → power ≡ 2 ^ limit → v % power ≡ v % 2 ^ limit
+below-power v limit power e = ap (λ (n : ℕ). v % n) e
+
+pub below-all : (bits v limit : ℕ) → v < 2 ^ bits → bits ≤ limit → v ≡ v % 2 ^ limit
+below-all bits v limit h past = sym (mod-eq-of-lt (lt-of-lt-of-le h (pow-mono past)))
 
 -- a test of every number below n
 abbrev passes : (n : ℕ) → (ℕ → Bool) → Bool
@@ -42,91 +48,71 @@ passes-at (suc n) f h v below =
         let other = eqb-false v n e in
         rest (omega arith)
 
-same-truth : (a b : Bool) → Bool·beq a b ≡ true → a ≡ b
-same-truth true true h = refl
-same-truth false false h = refl
-same-truth true false h = sym h
-same-truth false true h = h
+-- the columns of one parity
+abbrev pub of-parity : Bool → ℕ
+of-parity odd = cond odd 0x6996966996696996 0x9669699669969669
 
--- so it is for each byte, tested one by one
-pub odd-folded : (v : ℕ) → v < 256 → folded-odd v ≡ is-odd v
-unfolding is-odd ones
-odd-folded v below = same-truth (folded-odd v) (is-odd v) (passes-at 256 (λ u. Bool·beq (folded-odd u) (is-odd u)) refl v below)
+-- their part below the limit fits, and nothing else does: tested for each number of players
+abbrev part-fits : Bool → ℕ → Bool
+part-fits odd p = eqb (of-parity odd % 2 ^ (2 ^ p)) (columns-that (2 ^ p) 0 (λ c. same-parity (is-odd c) odd))
 
--- A COLUMN AMONG OTHERS
+each-part : (odd : Bool) → passes 7 (part-fits odd) ≡ true
+unfolding columns-that same-parity is-odd ones
+each-part true = refl
+each-part false = refl
 
-module _ (column : ℕ) (xs : List ℕ) (i : ℕ) where
-  pub member-here : i < length xs → getD xs i 0 ≡ column → member column (drop i xs) ≡ true
-  unfolding member
-  member-here inside e = rw (drop-cons xs i 0 inside) (simp (eq-eqb _ _ e))
+pub those-fit : (b : Board) (odd parity : Bool) (limit r : ℕ) → b .p ≤ 6 → odd ≡ parity
+    → r ≡ of-parity parity % 2 ^ limit → limit ≡ 2 ^ b .p → r ≡ fitting b odd
+unfolding fitting
+those-fit b odd parity limit r most e f is =
+    rw (f, is, e) (eqb-true _ _ (passes-at 7 (part-fits parity) (each-part parity) (b .p) (omega arith)))
 
-  pub member-later : i < length xs → (getD xs i 0 ≡ column → ⊥) → member column (drop i xs) ≡ member column (drop (i + 1) xs)
-  unfolding member
-  member-later inside differs = rw (add-one, drop-cons xs i 0 inside) (simp (ne-eqb _ _ differs))
+-- a bit past the width of a number is not set
+bit-past : (v c : ℕ) → v < 2 ^ 64 → 64 ≤ c → bit v c ≡ false
+unfolding bit
+bit-past v c h past = rw (div-eq-of-lt (lt-of-lt-of-le h (pow-mono past)))
 
-  pub member-nowhere : length xs ≤ i → member column (drop i xs) ≡ false
-  unfolding member
-  member-nowhere past = rw (drop-of-length-le xs past)
-
--- ONE COLUMN'S TESTS
-
--- the tests of one column: marks of p players only, and the parity asked
-abbrev pub column-good : (p : ℕ) → (odd : Bool) → (column : ℕ) → Bool
-column-good p odd column = ltb column (2 ^ p) && same-parity (is-odd column) odd
-
-pub column-high : (p : ℕ) (odd : Bool) (column limit : ℕ) → limit ≡ 2 ^ p → limit ≤ column → false ≡ column-good p odd column
-column-high p odd column limit is high =
-    let e = subst (λ (n : ℕ). n ≤ column) is high in simp (le-ltb _ _ e)
-
-pub column-low : (p : ℕ) (odd : Bool) (column limit : ℕ) (parity : Bool) → limit ≡ 2 ^ p → column < limit → parity ≡ is-odd column
-    → Bool·beq parity odd ≡ column-good p odd column
-unfolding same-parity
-column-low p odd column limit parity is low e =
-    let f = subst (λ (n : ℕ). column < n) is low in simp (lt-ltb _ _ f, ← e) (same parity odd)
+-- so a column is free where it is no such one and its bit is set
+pub bit-read : (v c : ℕ) → v < 2 ^ 64 → (ltb c 64 && eqb (v / 2 ^ (c % 64) % 2) 1) ≡ bit v c
+unfolding bit
+bit-read v c h = go (ltb c 64) refl
   where
-    same : (r o : Bool) → Bool·beq r o ≡ cond r o (not o)
-    same true true = refl
-    same true false = refl
-    same false true = refl
-    same false false = refl
+    go : (t : Bool) → ltb c 64 ≡ t → (t && eqb (v / 2 ^ (c % 64) % 2) 1) ≡ bit v c
+    go true e = rw (mod-eq-of-lt (ltb-true c 64 e))
+    go false e = sym (bit-past v c h (ltb-false c 64 e))
 
--- what a call sees that is lent a slice from a place on
-abbrev pub behind : ℕ → List ℕ → List ℕ
-behind k xs = take (length xs - k) (drop k xs)
+free-low : (v c : ℕ) → v < 2 ^ 64 → bit v c ≡ true → c % 64 ≡ c
+free-low v c h free = go (ltb c 64) refl
+  where
+    go : (t : Bool) → ltb c 64 ≡ t → c % 64 ≡ c
+    go true e = mod-eq-of-lt (ltb-true c 64 e)
+    go false e = absurd (false≢true (sym (bit-past v c h (ltb-false c 64 e)) ∙ free))
 
-behind-is : (k : ℕ) (xs : List ℕ) → behind k xs ≡ drop k xs
-behind-is k xs = take-all (length xs - k) (drop k xs) (simp length-drop (le-refl (length xs - k)))
+-- one bit turned round, by an XOR with its power of two
+pub crossed : (v i power : ℕ) → power ≡ 2 ^ i → bitXor v power ≡ turned v i
+crossed v i power e = ap (λ (n : ℕ). bitXor v n) e ∙ turned-by-xor v i
 
-member-behind : (xs : List ℕ) (i column : ℕ) (again : Bool) {t : Bool} → again ≡ member column (behind (i + 1) xs) → again ≡ t
-    → member column (drop (suc i) xs) ≡ t
-member-behind xs i column again f k = rw (← add-one i, ← (behind-is (i + 1) xs)) (sym f ∙ k)
+-- AN ARRAY'S COLUMNS: `fits` is whether the column at i is free, and `next` what is free behind it
 
--- AN ARRAY'S COLUMNS: `fits` and `again` are what the two tests of the column at i answer
-
-module _ (b : Board) (odd : Bool) (xs : List ℕ) (i : ℕ) (inside : i < length xs) where
+module _ (xs : List ℕ) (i : ℕ) where
   abbrev here : ℕ
   here = getD xs i 0
 
-  pub array-misfit : (fits : Bool) → fits ≡ column-good (b .p) odd here → not fits ≡ true → false ≡ array-good b odd (drop i xs)
-  unfolding array-good
-  array-misfit fits e h = rw (drop-cons xs i 0 inside) (simp (failed e h))
+  pub array-next : (good fits : Bool) (free next : ℕ) → i < length xs → free < 2 ^ 64 → fits ≡ bit free here
+      → next ≡ turned free (here % 64) → ((good && fits) && all-free next (drop (i + 1) xs)) ≡ (good && all-free free (drop i xs))
+  unfolding all-free
+  array-next false fits free next inside h e f = refl
+  array-next true fits free next inside h e f = rw (add-one, drop-cons xs i 0 inside, f) (go fits e)
+    where
+      go : (t : Bool) → t ≡ bit free here
+          → (t && all-free (turned free (here % 64)) (drop (suc i) xs)) ≡ (bit free here && all-free (turned free here) (drop (suc i) xs))
+      go true e = rw (free-low free here h (sym e), ← e)
+      go false e = rw (← e)
 
-  pub array-again : (fits again : Bool) → fits ≡ column-good (b .p) odd here → not fits ≡ false
-      → again ≡ member here (behind (i + 1) xs) → again ≡ true → false ≡ array-good b odd (drop i xs)
-  unfolding array-good
-  array-again fits again e h f k =
-      let there = member-behind xs i here again f k in rw (drop-cons xs i 0 inside) (simp (passed e h, there))
-
-  pub array-next : (fits again : Bool) → fits ≡ column-good (b .p) odd here → not fits ≡ false
-      → again ≡ member here (behind (i + 1) xs) → again ≡ false → array-good b odd (drop (i + 1) xs) ≡ array-good b odd (drop i xs)
-  unfolding array-good
-  array-next fits again e h f k =
-      let there = member-behind xs i here again f k in
-      rw (add-one, drop-cons xs i 0 inside) (simp (passed e h, there))
-
-pub array-done : (b : Board) (odd : Bool) (xs : List ℕ) (i : ℕ) → length xs ≤ i → true ≡ array-good b odd (drop i xs)
-unfolding array-good
-array-done b odd xs i past = rw (drop-of-length-le xs past)
+  pub array-done : (good : Bool) (free : ℕ) → length xs ≤ i → good ≡ (good && all-free free (drop i xs))
+  unfolding all-free
+  array-done true free past = rw (drop-of-length-le xs past)
+  array-done false free past = refl
 
 -- THE ARRAYS OF THE GRID ROWS
 

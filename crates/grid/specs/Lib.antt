@@ -1,4 +1,5 @@
 pub mod Arrays
+pub mod Checking
 pub mod Code
 pub mod Grid
 pub mod Hiding

@@ -1,66 +1,69 @@
 // The check of a dealing's arrays (number 8): no column with a bit at p or above, none of the wrong parity, none twice.
 // An array of J such columns holds every column of its parity exactly once.
 ghost use mathlib.Core.Path.{_≡_};
-ghost use mathlib.Core.Bool.{_&&_};
-ghost use Prim.Native.Nat.{_*_, _^_};
-ghost use lib.Dec.{ltb};
+ghost use Prim.Native.Nat.{_*_, _%_, _^_};
 ghost use lib.ListN.{length};
-ghost use Rattle.grid.specs.Grid.{board-refusal, columns, grid-rows, is-odd, same-parity, member, array-good, arrays-good};
+ghost use Rattle.grid.specs.Grid.{board-refusal, columns, grid-rows, bit, array-good, arrays-good};
+ghost use Rattle.grid.specs.Moving.{turned};
+ghost use Rattle.grid.specs.Checking.{fitting};
 ghost use Rattle.grid.specs.Code.{board-of};
 use crate::board::Board;
 
-// Whether a column has an odd count of marks.
-fn is_odd(column: u8) -> bool
-    ensures { λ r. ⌜ r ≡ is-odd column ⌝ }
+// Columns are below 64, so the bits of one number can say which: bit c is set where column c is among them. Here, those of odd parity.
+const ODD: u64 = 0x6996966996696996;
+
+// Those of some columns that are below a limit.
+fn below(columns: u64, limit: u32) -> u64
+    ensures { λ r. ⌜ r ≡ columns % 2 ^ limit ⌝ }
 {
-    let halves = column ^ (column >> 4);
-    let quarters = halves ^ (halves >> 2);
-    (quarters ^ (quarters >> 1)) % 2 == 1
+    if limit < 64 {
+        return columns % (1 << limit);
+    }
+    columns
 }
 
-// Whether a column has marks of these players only, and is of the parity asked.
-fn column_fits(board: Board, odd: bool, column: u8) -> bool
+// The columns that fit an array: marks of these players only, and the parity asked.
+fn fitting(board: Board, odd: bool) -> u64
     requires { ⌜ board-refusal (board-of board) ≡ 0 ⌝ }
-    ensures { λ r. ⌜ r ≡ (ltb column (2 ^ (board .players)) && same-parity (is-odd column) odd) ⌝ }
+    ensures { λ r. ⌜ r ≡ fitting (board-of board) odd ⌝ }
 {
     let limit: u32 = 1 << board.players;
-    if column as u32 >= limit {
-        return false;
+    if odd {
+        return below(ODD, limit);
     }
-    is_odd(column) == odd
+    below(!ODD, limit)
 }
 
-// Whether a column stands among others.
-fn stands_in(column: u8, array: &[u8]) -> bool
-    ensures { λ r. ⌜ r ≡ member column (now (array .entry)) ⌝ }
+// Whether a column is among the free ones.
+fn is_free(free: u64, column: u8) -> bool
+    ensures { λ r. ⌜ r ≡ bit free column ⌝ }
 {
-    let mut place: usize = 0;
-    while place < array.len() {
-        if array[place] == column {
-            return true;
-        }
-        place += 1;
-    }
-    false
+    (column < 64) & ((free >> (column % 64)) % 2 == 1)
 }
 
-// Whether one array is an even or an odd one: each column fits, and stands nowhere behind itself again.
+// The free columns without one of them. (A column that is not free is put in, but then the array is bad already.)
+fn cross_out(free: u64, column: u8) -> u64
+    ensures { λ r. ⌜ r ≡ turned free (column % 64) ⌝ }
+{
+    free ^ (1 << (column % 64))
+}
+
+// Whether one array is an even or an odd one: each column fits, and stands nowhere behind itself again. In one pass, without a branch: free
+// are the columns that fit and have not stood yet, and each column must be one of them.
 fn array_good(board: Board, odd: bool, array: &[u8]) -> bool
     requires { ⌜ board-refusal (board-of board) ≡ 0 ⌝ }
     ensures { λ r. ⌜ r ≡ array-good (board-of board) odd (now (array .entry)) ⌝ }
 {
+    let mut free = fitting(board, odd);
+    let mut good = true;
     let mut place: usize = 0;
     while place < array.len() {
         let column = array[place];
+        good = good & is_free(free, column);
+        free = cross_out(free, column);
         place += 1;
-        if !column_fits(board, odd, column) {
-            return false;
-        }
-        if stands_in(column, &array[place..]) {
-            return false;
-        }
     }
-    true
+    good
 }
 
 // Whether the arrays of all grid rows are as they must be: an odd one in the point's grid row, even ones in the others.

@@ -1,80 +1,62 @@
--- `array_check::array_good` meets its contract. The loop's invariant: what is left of the array is good or not, as the whole is. The
--- measure is what is left.
+-- `array_check::array_good` meets its contract. The loop's invariant: whether the columns so far were free and the others will be is
+-- whether all columns were at the start. The measure is what is left of the array.
 -- Assumes nothing.
 use mathlib.Core.Path.{_≡_, refl, sym, _∙_}
-use Prim.Native.Nat.{_+_, _-_, _≤_}
+use mathlib.Core.Bool.{_&&_}
+use Prim.Native.Nat.{_+_, _-_, _^_, _≤_, _<_}
 use native.Mathlib.Omega.{arith}
 use borrow.Author.Needs.{needs}
 use lib.ListN.{length, drop}
 use Rattle.grid.specs.Grid.{board, array-good}
 use Rattle.grid.specs.Code.{board-of}
-use Rattle.grid.proofs.Checking.{array-misfit, array-again, array-next, array-done}
+use Rattle.grid.proofs.Crossing.{all-free, good-at-once}
+use Rattle.grid.proofs.Checking.{array-next, array-done}
 use Rattle.grid.proofs.array_check.array_good.Statement.{statement}
 use Rattle.grid.proofs.array_check.array_good.Tie as tie
 
 abbrev Inv-loop : tie.InvT-loop
-Inv-loop board odd array place₀ place =
-    (place ≤ length array) × (array-good (board-of board) odd (drop place array) ≡ array-good (board-of board) odd array)
+Inv-loop odd array free₀ good₀ place₀ free good place =
+    (place ≤ length array) × (free < 2 ^ 64) × ((good && all-free free (drop place array)) ≡ all-free free₀ array)
 
 abbrev μ-loop : tie.MeasureT-loop
-μ-loop board odd array place₀ place = length array - place
+μ-loop odd array free₀ good₀ place₀ free good place = length array - place
+
+fitting-requires : tie.Need-fitting-requires Inv-loop μ-loop
+fitting-requires c κs = c .before .pre
 
 loop-holds : tie.Need-loop-holds Inv-loop μ-loop
-loop-holds c = (omega arith, refl)
+loop-holds c = (omega arith, c .fitting .ok, refl)
 
 shared-slice-read-column : tie.Need-shared-slice-read-column Inv-loop μ-loop
 shared-slice-read-column c = omega arith
 
+is-free-requires : tie.Need-is-free-requires Inv-loop μ-loop
+is-free-requires c κs = search needs
+
+cross-out-requires : tie.Need-cross-out-requires Inv-loop μ-loop
+cross-out-requires c κs = search needs
+
 add-place : tie.Need-add-place Inv-loop μ-loop
 add-place c = omega arith
-
-column-fits-requires : tie.Need-column-fits-requires Inv-loop μ-loop
-column-fits-requires c κs = c .before .before .before .before .pre
-
-returns : tie.Need-returns Inv-loop μ-loop
-unfolding board
-returns c =
-    let turn = c .before .before .before in
-    array-misfit _ _ _ _ (turn .loop-test .taken) _ (c .before .column-fits .ensures) (c .if1 .taken)
-    ∙ turn .before .loop .inv .1
-
-sub-stands-in : tie.Need-sub-stands-in Inv-loop μ-loop
-sub-stands-in c = omega arith
-
-part-stands-in-start : tie.Need-part-stands-in-start Inv-loop μ-loop
-part-stands-in-start c = search needs
-
-part-stands-in-end : tie.Need-part-stands-in-end Inv-loop μ-loop
-part-stands-in-end c = search needs
-
-stands-in-requires : tie.Need-stands-in-requires Inv-loop μ-loop
-stands-in-requires c κs = search needs
-
-returns-2 : tie.Need-returns-2 Inv-loop μ-loop
-unfolding board
-returns-2 c =
-    let fits = c .before .before .before in
-    let turn = fits .before .before .before in
-    array-again _ _ _ _ (turn .loop-test .taken) _ _ (fits .before .column-fits .ensures) (fits .if1 .left)
-    (c .before .stands-in .ensures) (c .if2 .taken)
-    ∙ turn .before .loop .inv .1
 
 loop-less : tie.Need-loop-less Inv-loop μ-loop
 loop-less c = omega arith
 
 loop-again : tie.Need-loop-again Inv-loop μ-loop
-unfolding board
 loop-again c =
-    let fits = c .before .before .before in
-    let turn = fits .before .before .before in (
+    let turn = c .before .before .before in
+    let now = turn .before .loop in
+    let array = turn .before .before .before .before .args .array .now in (
       omega arith,
-      array-next _ _ _ _ (turn .loop-test .taken) _ _ (fits .before .column-fits .ensures) (fits .if1 .left)
-          (c .before .stands-in .ensures) (c .if2 .left)
-          ∙ turn .before .loop .inv .1,
+      c .cross-out .ok,
+      array-next array _ (now .good) _ _ _ (turn .loop-test .taken) (now .inv .1) (c .before .is-free .ensures) (c .cross-out .ensures)
+          ∙ now .inv .2,
     )
 
-returns-3 : tie.Need-returns-3 Inv-loop μ-loop
-returns-3 c = array-done _ _ _ _ (c .loop-test .left) ∙ c .before .loop .inv .1
+returns : tie.Need-returns Inv-loop μ-loop
+returns c =
+    let start = c .before .before in
+    array-done _ _ _ _ (c .loop-test .left) ∙ c .before .loop .inv .2 ∙ rw (start .fitting .ensures) (good-at-once _ _ _)
 
 pub array-good-spec : {M : Type 1} → statement M
 array-good-spec =
@@ -82,16 +64,12 @@ array-good-spec =
     (tie.spec
     Inv-loop
     μ-loop
+    fitting-requires
     loop-holds
     shared-slice-read-column
+    is-free-requires
+    cross-out-requires
     add-place
-    column-fits-requires
-    returns
-    sub-stands-in
-    part-stands-in-start
-    part-stands-in-end
-    stands-in-requires
-    returns-2
     loop-less
     loop-again
-    returns-3)
+    returns)
