@@ -14,6 +14,7 @@ use Rattle.grid.proofs.Facts.{board-in}
 use Rattle.grid.proofs.Sizes.{row-most, columns-few, arrays-most}
 use Rattle.keys.specs.Keys.{Lent, key-long, deal-refusal}
 use Rattle.keys.proofs.Accepted.{passed, refusing}
+use Rattle.last_word.specs.LastWord as LastWord
 use Rattle.dealing.specs.Dealt as Dealt
 use Rattle.entry.specs.Entry.{or-else, in-front, lent, rule, Deal-says}
 use Rattle.deal_call.specs.Lent.{lent-fits}
@@ -119,5 +120,5 @@ module _ (p n m w a : ℕ) (v cs ss ws o : List ℕ) where
 
     pub dealt : (z : List ℕ) → p * long ≤ length o → z ≡ Dealt.in-front (Dealt.dealt-keys (board p n m w) (Dealt.lent a v cs ss ws)) o
         → Deal-says p n m w a v cs ss ws 0 o z
-    unfolding Deal-says Dealt.in-front in-front Dealt.dealt-keys Dealt.rule rule board lent
+    unfolding Deal-says Dealt.in-front in-front Dealt.dealt-keys LastWord.rule rule board lent
     dealt z h e = put-done _ _ 0 o z (room-number ∙ rw (le-ltb (length o) (p * long) h)) refl e

@@ -1,7 +1,5 @@
 // Dealing: the keys of an accepted dealing, written one after another. Refusals stand above this crate. Assumes nothing.
-pub mod grid_rows;
 pub mod header;
-pub mod last_word;
 
 ghost use mathlib.Core.Path.{_≡_};
 ghost use Prim.Native.Nat.{_+_, _*_, _≤_, _<_};
@@ -35,7 +33,7 @@ fn put_front(
         board.width,
         board.value_bytes,
     );
-    let next = grid_rows::put_rows(out, next, board, player, arrays, seeds);
+    let next = held_rows::put_rows(out, next, board, player, arrays, seeds);
     writer::put(out, next, words)
 }
 

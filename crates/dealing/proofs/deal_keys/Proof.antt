@@ -10,14 +10,15 @@ use Rattle.grid.proofs.Facts.{board-in}
 use Rattle.keys.specs.Keys.{Lent, keys-from}
 use Rattle.writer.specs.Written.{Wrote}
 use Rattle.writer.proofs.Laws.{wrote-nothing}
-use Rattle.dealing.specs.Dealt.{lent, rule}
+use Rattle.last_word.specs.LastWord.{rule}
+use Rattle.dealing.specs.Dealt.{lent}
 use Rattle.dealing.proofs.Lending.{Lent-fits, lent-fits}
 use Rattle.dealing.proofs.KeyBytes.{Begun, front-room, word-room, next-front-room, again-room, turn, all-written}
 use Rattle.dealing.proofs.deal_keys.Statement.{statement}
 use Rattle.dealing.proofs.deal_keys.Tie as tie
 use Rattle.dealing.proofs.deal_keys.Reads as reads
 use Rattle.dealing.proofs.deal_keys.Lts as lts
-use Rattle.dealing.proofs.last_word.put_last_word.Reads as put-last-word-reads
+use Rattle.last_word.proofs.put_last_word.Reads as put-last-word-reads
 use Rattle.dealing.proofs.put_front.Reads as put-front-reads
 use Rattle.grid.proofs.board.Board.row_length.Reads as row-length-reads
 use Rattle.writer.proofs.put_again.Reads as put-again-reads

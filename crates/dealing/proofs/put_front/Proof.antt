@@ -14,7 +14,7 @@ use Rattle.dealing.proofs.put_front.Tie as tie
 use Rattle.dealing.proofs.put_front.Reads as reads
 use Rattle.dealing.proofs.put_front.Lts as lts
 use Rattle.dealing.proofs.header.put_header.Reads as put-header-reads
-use Rattle.dealing.proofs.grid_rows.put_rows.Reads as put-rows-reads
+use Rattle.held_rows.proofs.put_rows.Reads as put-rows-reads
 use Rattle.writer.proofs.put.Reads as put-reads
 
 -- the front has room for its parts

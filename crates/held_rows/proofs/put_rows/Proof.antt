@@ -1,0 +1,155 @@
+-- `dealing::grid_rows::put_rows` meets its contract. The loop's invariant: the grid rows before this one are written. Assumes nothing.
+use mathlib.Core.Path.{_≡_, refl, _∙_, subst}
+use Prim.Native.Nat.{ℕ, _+_, _*_, _-_, _≤_, _<_}
+use native.Mathlib.Omega.{arith}
+use lib.ListN.{length}
+use denote.Ref.{now}
+use Rattle.grid.specs.Grid.{columns, grid-rows}
+use Rattle.grid.specs.Code.{board-of}
+use Rattle.grid.proofs.Facts.{board-in}
+use Rattle.keys.specs.Keys.{body-from, mark-bytes}
+use Rattle.writer.specs.Written.{Wrote}
+use Rattle.writer.proofs.Laws.{wrote-nothing}
+use borrow.Author.Needs.{needs}
+use Rattle.held_rows.proofs.RowBytes.{row-here, row-room, row-seeds, mark-bytes-most, body-within, rows-turn}
+use Rattle.held_rows.proofs.put_rows.Statement.{statement}
+use Rattle.held_rows.proofs.put_rows.Tie as tie
+use Rattle.held_rows.proofs.put_rows.Reads as reads
+use Rattle.held_rows.proofs.put_rows.Lts as lts
+use Rattle.key_lengths.proofs.mark_bytes.Reads as mark-bytes-reads
+use Rattle.held_rows.proofs.put_row.Reads as put-row-reads
+use Rattle.grid.proofs.board.Board.columns.Reads as columns-reads
+use Rattle.grid.proofs.board.Board.grid_rows.Reads as grid-rows-reads
+
+abbrev Inv-loop : tie.InvT-loop
+Inv-loop out₀ at board player arrays seeds columns grid-rows next₀ grid-row₀ out next grid-row =
+    (grid-row ≤ grid-rows) × (length out ≡ length out₀) × Wrote at (body-from grid-row (board-of board) player arrays seeds) next out₀ out
+
+abbrev μ-loop : tie.MeasureT-loop
+μ-loop out₀ at board player arrays seeds columns grid-rows next₀ grid-row₀ out next grid-row = grid-rows - grid-row
+
+-- the array of this grid row is there
+room : (c : tie.In-loop Inv-loop μ-loop) → let a = c .before .before .before .before .before .before .before .args in
+    c .before .loop .grid-row * c .before .before .before .columns .result + c .before .before .before .columns .result ≤ length (now (a .arrays))
+room c =
+    let s = c .before .before .before .before .before .before .before in
+    row-room (c .before .loop .grid-row) (c .before .before .before .columns .result) (c .before .before .grid-rows .result) (board-of (s .args .board)) (now (s .args .arrays))
+    (c .before .before .before .columns .ensures) (c .before .before .grid-rows .ensures) (c .loop-test .taken) (s .pre .2)
+
+-- and all seeds are 32 times as many bytes
+all-seeds : (s : tie.Start Inv-loop μ-loop) → length (now (s .args .seeds)) ≡ 32 * length (now (s .args .arrays))
+all-seeds s = omega (arith, s .pre .2, s .pre .3)
+
+columns-requires : tie.Need-columns-requires Inv-loop μ-loop
+columns-requires c κs = search needs
+
+grid-rows-requires : tie.Need-grid-rows-requires Inv-loop μ-loop
+grid-rows-requires c κs = search needs
+
+loop-holds : tie.Need-loop-holds Inv-loop μ-loop
+unfolding body-from
+loop-holds c = (omega arith, refl, wrote-nothing _ _)
+
+mul-from : tie.Need-mul-from Inv-loop μ-loop
+mul-from c = omega (arith, room c)
+
+add-end : tie.Need-add-end Inv-loop μ-loop
+add-end c = omega (arith, room c)
+
+mul-seed : tie.Need-mul-seed Inv-loop μ-loop
+mul-seed c = omega (arith, room c, all-seeds (c .before .before .before .before .before .before .before))
+
+mark-bytes-requires : tie.Need-mark-bytes-requires Inv-loop μ-loop
+mark-bytes-requires c κs = search needs
+
+sub-put-row : tie.Need-sub-put-row Inv-loop μ-loop
+sub-put-row c = omega arith
+
+part-put-row-start : tie.Need-part-put-row-start Inv-loop μ-loop
+part-put-row-start c = omega (arith, room (c .before .before))
+
+part-put-row-end : tie.Need-part-put-row-end Inv-loop μ-loop
+part-put-row-end c = omega (arith, room (c .before .before))
+
+sub-put-row-2 : tie.Need-sub-put-row-2 Inv-loop μ-loop
+sub-put-row-2 c = omega (arith, room (c .before .before .before), all-seeds (c .before .before .before .before .before .before .before .before .before .before))
+
+part-put-row-start-2 : tie.Need-part-put-row-start-2 Inv-loop μ-loop
+part-put-row-start-2 c = omega (arith, room (c .before .before .before), all-seeds (c .before .before .before .before .before .before .before .before .before .before))
+
+part-put-row-end-2 : tie.Need-part-put-row-end-2 Inv-loop μ-loop
+part-put-row-end-2 c = search needs
+
+put-row-requires : tie.Need-put-row-requires Inv-loop μ-loop
+put-row-requires c κs =
+    let s = c .before .before .before .before .before .before .before .before .before .before .before in
+    let a = s .args in
+    let b = board-of (a .board) in
+    let l = c .before .before .before .before .before .loop in
+    let J = c .before .before .before .before .before .before .before .columns in
+    let m = c .before .before .mark-bytes in
+    let within : l .grid-row < grid-rows b = omega (arith, c .before .before .before .before .before .before .grid-rows .ensures) in (
+      omega arith,
+      omega (arith, m .ensures, mark-bytes-most b (board-in b (s .pre .0))),
+      row-seeds (l .grid-row * J .result) (J .result) (now (a .arrays)) (now (a .seeds)) (room (c .before .before .before .before)) (all-seeds s),
+      rw (row-here (l .grid-row) (J .result) (m .result) (a .player) b (now (a .arrays)) (now (a .seeds)) (J .ensures) (m .ensures))
+          (omega (arith, l .inv .2 .next-is, l .inv .1, s .pre .4, body-within (l .grid-row) (grid-rows b) b (a .player) (now (a .arrays)) (now (a .seeds)) within)),
+    )
+
+add-grid-row : tie.Need-add-grid-row Inv-loop μ-loop
+add-grid-row c = omega arith
+
+loop-less : tie.Need-loop-less Inv-loop μ-loop
+loop-less c = omega arith
+
+loop-again : tie.Need-loop-again Inv-loop μ-loop
+loop-again c =
+    let s = c .before .before .before .before .before .before .before .before .before .before .before .before .before .before in
+    let a = s .args in
+    let b = board-of (a .board) in
+    let l = c .before .before .before .before .before .before .before .before .loop in
+    let J = c .before .before .before .before .before .before .before .before .before .before .columns in
+    let m = c .before .before .before .before .before .mark-bytes in
+    let written = c .before .before .put-row in
+    let within : l .grid-row < grid-rows b = omega (arith, c .before .before .before .before .before .before .before .before .before .grid-rows .ensures) in (
+      omega arith,
+      written .kept .0 ∙ l .inv .1,
+      rows-turn (a .at) (l .grid-row) (grid-rows b) (a .player) b (now (a .arrays)) (now (a .seeds)) within (s .pre .4) (l .inv .2)
+          (rw (row-here (l .grid-row) (J .result) (m .result) (a .player) b (now (a .arrays)) (now (a .seeds)) (J .ensures) (m .ensures)) at (written .ensures)),
+    )
+
+same-length : tie.Need-same-length Inv-loop μ-loop
+same-length c = c .before .loop .inv .1
+
+returns : tie.Need-returns Inv-loop μ-loop
+returns c =
+    let a = c .before .before .before .before .before .before .before .args in
+    let l = c .before .loop in
+    let all : l .grid-row ≡ grid-rows (board-of (a .board)) = omega (arith, c .before .before .grid-rows .ensures) in
+    subst (λ (k : ℕ). Wrote (a .at) (body-from k (board-of (a .board)) (a .player) (now (a .arrays)) (now (a .seeds))) (l .next) (now (a .out)) (l .out)) all (l .inv .2)
+
+pub put-rows-spec : {M : Type 1} → statement M
+put-rows-spec =
+    tie.close
+    (tie.spec
+    Inv-loop
+    μ-loop
+    columns-requires
+    grid-rows-requires
+    loop-holds
+    mul-from
+    add-end
+    mul-seed
+    mark-bytes-requires
+    sub-put-row
+    part-put-row-start
+    part-put-row-end
+    sub-put-row-2
+    part-put-row-start-2
+    part-put-row-end-2
+    put-row-requires
+    add-grid-row
+    loop-less
+    loop-again
+    same-length
+    returns)

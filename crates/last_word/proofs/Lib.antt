@@ -1,0 +1,2 @@
+-- The laws of the last word. Assumes nothing.
+pub mod LastWord
