@@ -176,13 +176,13 @@ fn held_seed(head: &[u8], inputs: &[u8], answer: &[u8]) -> bool {
 
 // The dealing program answers bytes alone.
 fn dealing_program(inputs: &[u8], answer: &[u8], output: &mut [u8]) -> bool {
-    let written = programs::dealing_program(inputs, output);
+    let written = dealing_program::dealing_program(inputs, output);
     check::same(front(output, written), answer)
 }
 
 // The joining program too; it is lent a table beside its output.
 fn joining_program(inputs: &[u8], answer: &[u8], table: &mut [u8], output: &mut [u8]) -> bool {
-    let written = programs::joining_program(inputs, table, output);
+    let written = joining_program::joining_program(inputs, table, output);
     check::same(front(output, written), answer)
 }
 

@@ -21,7 +21,7 @@ fn stored(bytes: &[u8], path: &[u8]) -> bool {
 // Whether the dealing program writes the file.
 fn deals(input: &[u8], path: &[u8]) -> bool {
     let mut output = [0u8; 65536];
-    let written = programs::dealing_program(input, &mut output);
+    let written = dealing_program::dealing_program(input, &mut output);
     stored(&output[..written], path)
 }
 
@@ -29,7 +29,7 @@ fn deals(input: &[u8], path: &[u8]) -> bool {
 fn joins(input: &[u8], path: &[u8]) -> bool {
     let mut table = [0u8; 65536];
     let mut output = [0u8; 600000];
-    let written = programs::joining_program(input, &mut table, &mut output);
+    let written = joining_program::joining_program(input, &mut table, &mut output);
     stored(&output[..written], path)
 }
 

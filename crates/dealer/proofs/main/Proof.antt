@@ -2,7 +2,7 @@
 use mathlib.Core.Path.{sym}
 use native.Mathlib.Omega.{arith}
 use lib.Seq.{length-take-le}
-use Rattle.programs.proofs.Writing.{writes-within}
+use Rattle.program_output.proofs.Writing.{writes-within}
 use borrow.Author.Needs.{needs}
 use Rattle.dealer.proofs.main.Statement.{statement}
 use Rattle.dealer.proofs.main.Tie as tie
@@ -10,7 +10,7 @@ use Rattle.dealer.proofs.main.Reads as reads
 use Rattle.dealer.proofs.main.Lts as lts
 use Rattle.io.proofs.read_full.Reads as read-full-reads
 use Rattle.io.proofs.write_all.Reads as write-all-reads
-use Rattle.programs.proofs.dealing_program.Reads as dealing-program-reads
+use Rattle.dealing_program.proofs.dealing_program.Reads as dealing-program-reads
 
 slice-aggregate-read-full : tie.Need-slice-aggregate-read-full
 slice-aggregate-read-full c = search needs

@@ -2,7 +2,7 @@
 use mathlib.Core.Path.{sym}
 use native.Mathlib.Omega.{arith}
 use lib.Seq.{length-take-le}
-use Rattle.programs.proofs.Joinings.{joins-within}
+use Rattle.joining_program.proofs.Joinings.{joins-within}
 use borrow.Author.Needs.{needs}
 use Rattle.joiner.proofs.main.Statement.{statement}
 use Rattle.joiner.proofs.main.Tie as tie
@@ -10,7 +10,7 @@ use Rattle.joiner.proofs.main.Reads as reads
 use Rattle.joiner.proofs.main.Lts as lts
 use Rattle.io.proofs.read_full.Reads as read-full-reads
 use Rattle.io.proofs.write_all.Reads as write-all-reads
-use Rattle.programs.proofs.joining_program.Reads as joining-program-reads
+use Rattle.joining_program.proofs.joining_program.Reads as joining-program-reads
 
 slice-aggregate-read-full : tie.Need-slice-aggregate-read-full
 slice-aggregate-read-full c = search needs

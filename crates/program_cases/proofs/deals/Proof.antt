@@ -2,7 +2,7 @@
 use mathlib.Core.Path.{sym}
 use native.Mathlib.Omega.{arith}
 use lib.Seq.{length-take-le}
-use Rattle.programs.proofs.Writing.{writes-within}
+use Rattle.program_output.proofs.Writing.{writes-within}
 use borrow.Author.Needs.{needs}
 use Rattle.program_cases.proofs.deals.Statement.{statement}
 use Rattle.program_cases.proofs.deals.Tie as tie

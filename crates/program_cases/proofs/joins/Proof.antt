@@ -2,7 +2,7 @@
 use mathlib.Core.Path.{sym}
 use native.Mathlib.Omega.{arith}
 use lib.Seq.{length-take-le}
-use Rattle.programs.proofs.Joinings.{joins-within}
+use Rattle.joining_program.proofs.Joinings.{joins-within}
 use borrow.Author.Needs.{needs}
 use Rattle.program_cases.proofs.joins.Statement.{statement}
 use Rattle.program_cases.proofs.joins.Tie as tie
