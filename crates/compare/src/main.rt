@@ -3,10 +3,8 @@
 // A line for each operation says how many cases it has, how many of them are refusals, and how many are equal; a line `DIFFERENT case n`,
 // counted from 0, stands before it for each that is not. The checksum holds those bytes, such as a seed in a key that is only checked, on
 // which no answer depends. `reference/make-data` makes the file again. Assumes nothing.
-mod answers;
 mod calls;
 mod cases;
-mod file;
 mod operations;
 
 ghost use mathlib.Core.Path.{_≡_};
@@ -67,9 +65,9 @@ fn line(name: &[u8], operation: u8, file: &[u8]) {
 fn file_line(file: &[u8]) {
     io::print_decimal(STDOUT_FILENO, file.len() as u64);
     text(b" bytes, checksum ");
-    io::print_hex(STDOUT_FILENO, file::checksum(file) as u64, 8);
+    io::print_hex(STDOUT_FILENO, case_file::checksum(file) as u64, 8);
     text(b", ");
-    number(file::count(file));
+    number(case_file::count(file));
     text(b" cases\n");
 }
 

@@ -1,10 +1,10 @@
--- `compare::answers::same_numbers` meets its contract: it answers true behind all six tests. Assumes nothing.
+-- `answers::same_numbers` meets its contract: it answers true behind all six tests. Assumes nothing.
 use mathlib.Core.Path.{sym, _∙_}
 use mathlib.Core.Bool.{true≢false}
 use borrow.Author.Needs.{needs}
 use borrow.Author.Tests.{eqb-true}
-use Rattle.compare.proofs.answers.same_numbers.Statement.{statement}
-use Rattle.compare.proofs.answers.same_numbers.Tie as tie
+use Rattle.answers.proofs.same_numbers.Statement.{statement}
+use Rattle.answers.proofs.same_numbers.Tie as tie
 
 byte-requires : tie.Need-byte-requires
 byte-requires c κs = search needs

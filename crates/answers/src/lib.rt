@@ -1,19 +1,19 @@
-// What a call answered and left behind, beside what the file says. Assumes nothing.
+// What a call answered and left behind, beside what the file of cases says. Its meaning is specs/Answers.antt. Assumes nothing.
 ghost use mathlib.Core.Path.{_≡_};
 ghost use mathlib.Core.Bool.{true};
 ghost use lib.ListN.{length, replicate};
-ghost use Rattle.compare.specs.Answers.{Same-numbers, Left};
-use crate::file::REFUSAL;
-use crate::file::RESULT_1;
-use crate::file::RESULT_2;
-use crate::file::RESULT_3;
-use crate::file::RESULT_4;
-use crate::file::RESULT_5;
-use crate::file::front;
-use crate::file::number_at;
+ghost use Rattle.answers.specs.Answers.{Same-numbers, Left};
+use case_file::REFUSAL;
+use case_file::RESULT_1;
+use case_file::RESULT_2;
+use case_file::RESULT_3;
+use case_file::RESULT_4;
+use case_file::RESULT_5;
+use case_file::front;
+use case_file::number_at;
+use entry::Answer;
 use keys::grid_row::part_from;
 use keys::reader::byte;
-use nosingginger::Answer;
 
 // The number of a refusal, or 0, and the numbers that an operation answers beside it; those that it has not are 0.
 pub struct Answered {
@@ -26,7 +26,7 @@ pub struct Answered {
 }
 
 // A number and one value.
-pub fn with_value(refusal: u32, value: u32) -> Answered {
+fn with_value(refusal: u32, value: u32) -> Answered {
     Answered {
         refusal,
         first: value,

@@ -1,4 +1,4 @@
--- `compare::answers::left` meets its contract: the front is the answer, and what is behind it the fill. Assumes nothing.
+-- `answers::left` meets its contract: the front is the answer, and what is behind it the fill. Assumes nothing.
 use mathlib.Core.Path.{_≡_, refl, sym, subst, _∙_}
 use mathlib.Core.Bool.{true≢false}
 use mathlib.Core.List.{List}
@@ -7,9 +7,9 @@ use denote.Ref.{now}
 use lib.ListN.{length, replicate}
 use borrow.Author.Needs.{needs}
 use borrow.Author.Tests.{not-false}
-use Rattle.compare.proofs.Laws.{left-is}
-use Rattle.compare.proofs.answers.left.Statement.{statement}
-use Rattle.compare.proofs.answers.left.Tie as tie
+use Rattle.answers.proofs.Laws.{left-is}
+use Rattle.answers.proofs.left.Statement.{statement}
+use Rattle.answers.proofs.left.Tie as tie
 
 returns : tie.Need-returns
 returns c = λ e. absurd (true≢false (sym e))

@@ -1,12 +1,12 @@
--- `compare::answers::fill` meets its contract. The loop's invariant: the bytes before `i` are the fill. Assumes nothing.
+-- `answers::fill` meets its contract. The loop's invariant: the bytes before `i` are the fill. Assumes nothing.
 use mathlib.Core.Path.{_≡_, refl}
 use Prim.Native.Nat.{_≤_, _-_}
 use native.Mathlib.Omega.{arith}
 use denote.Ref.{now}
 use lib.ListN.{length, take, replicate, length-set}
-use Rattle.compare.proofs.Laws.{fill-turn, filled-whole}
-use Rattle.compare.proofs.answers.fill.Statement.{statement}
-use Rattle.compare.proofs.answers.fill.Tie as tie
+use Rattle.answers.proofs.Laws.{fill-turn, filled-whole}
+use Rattle.answers.proofs.fill.Statement.{statement}
+use Rattle.answers.proofs.fill.Tie as tie
 
 abbrev Inv-loop : tie.InvT-loop
 Inv-loop bytes₀ filler i₀ bytes i = (i ≤ length bytes₀) × (length bytes ≡ length bytes₀) × (take i bytes ≡ replicate i filler)

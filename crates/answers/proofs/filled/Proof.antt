@@ -1,13 +1,13 @@
--- `compare::answers::filled` meets its contract. The loop's invariant: the bytes before `i` are the fill. Assumes nothing.
+-- `answers::filled` meets its contract. The loop's invariant: the bytes before `i` are the fill. Assumes nothing.
 use mathlib.Core.Path.{_≡_, refl, sym}
 use mathlib.Core.Bool.{true≢false}
 use Prim.Native.Nat.{_≤_, _-_}
 use native.Mathlib.Omega.{arith}
 use denote.Ref.{now}
 use lib.ListN.{length, take, replicate}
-use Rattle.compare.proofs.Laws.{filled-turn, filled-whole}
-use Rattle.compare.proofs.answers.filled.Statement.{statement}
-use Rattle.compare.proofs.answers.filled.Tie as tie
+use Rattle.answers.proofs.Laws.{filled-turn, filled-whole}
+use Rattle.answers.proofs.filled.Statement.{statement}
+use Rattle.answers.proofs.filled.Tie as tie
 
 abbrev Inv-loop : tie.InvT-loop
 Inv-loop bytes filler i₀ i = (i ≤ length bytes) × (take i bytes ≡ replicate i filler)

@@ -1,4 +1,4 @@
--- `compare::file::front` meets its contract. Assumes nothing.
+-- `case_file::front` meets its contract. Assumes nothing.
 use mathlib.Core.Path.{sym, ap, _∙_}
 use Prim.Native.Nat.{_≤_}
 use native.Mathlib.Omega.{arith}
@@ -6,8 +6,8 @@ use denote.Ref.{now}
 use lib.ListN.{length}
 use lib.Seq.{length-take-le, take-all, take-length}
 use borrow.Author.Needs.{needs}
-use Rattle.compare.proofs.file.front.Statement.{statement}
-use Rattle.compare.proofs.file.front.Tie as tie
+use Rattle.case_file.proofs.front.Statement.{statement}
+use Rattle.case_file.proofs.front.Tie as tie
 
 slice-aggregate-result : tie.Need-slice-aggregate-result
 slice-aggregate-result c =

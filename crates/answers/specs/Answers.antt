@@ -3,8 +3,8 @@ use mathlib.Core.Path.{_≡_}
 use mathlib.Core.List.{List, _++_}
 use Prim.Native.Nat.{ℕ, _-_}
 use lib.ListN.{length, getD, replicate}
-use Rattle.compare.specs.File.{number-at}
-use Rattle.compare.specs.declared.answers.Answered.{Answered}
+use Rattle.case_file.specs.File.{number-at}
+use Rattle.answers.specs.declared.Answered.{Answered}
 
 -- "the refusal number, 0 when accepted" at 1, and "five numbers that come out" at 24
 abbrev pub Same-numbers : (head : List ℕ) → Answered → Type 0

@@ -1,11 +1,11 @@
--- `compare::file::part` meets its contract. Assumes nothing.
+-- `case_file::part` meets its contract. Assumes nothing.
 use mathlib.Core.Path.{ap, _∙_}
 use mathlib.Core.List.{List}
 use Prim.Native.Nat.{ℕ}
 use lib.ListN.{take}
 use borrow.Author.Needs.{needs}
-use Rattle.compare.proofs.file.part.Statement.{statement}
-use Rattle.compare.proofs.file.part.Tie as tie
+use Rattle.case_file.proofs.part.Statement.{statement}
+use Rattle.case_file.proofs.part.Tie as tie
 
 part-from-requires : tie.Need-part-from-requires
 part-from-requires c κs = search needs

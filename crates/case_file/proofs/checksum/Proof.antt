@@ -1,10 +1,10 @@
--- `compare::file::checksum` is safe and ends. The loop's invariant: both sums are below 65521. Assumes nothing.
+-- `case_file::checksum` is safe and ends. The loop's invariant: both sums are below 65521. Assumes nothing.
 use Prim.Native.Nat.{_≤_, _<_, _-_}
 use native.Mathlib.Omega.{arith}
 use borrow.Author.Needs.{needs}
 use lib.ListN.{length}
-use Rattle.compare.proofs.file.checksum.Statement.{statement}
-use Rattle.compare.proofs.file.checksum.Tie as tie
+use Rattle.case_file.proofs.checksum.Statement.{statement}
+use Rattle.case_file.proofs.checksum.Tie as tie
 
 abbrev Inv-loop : tie.InvT-loop
 Inv-loop bytes sum₀ sums₀ i₀ sum sums i = (i ≤ length bytes) × (sum < 65521) × (sums < 65521)

@@ -1,9 +1,9 @@
--- `compare::file::number_at` meets its contract. Assumes nothing.
+-- `case_file::number_at` meets its contract. Assumes nothing.
 use mathlib.Core.Path.{ap, _∙_}
 use borrow.Author.Needs.{needs}
-use Rattle.compare.specs.File.{number-in}
-use Rattle.compare.proofs.file.number_at.Statement.{statement}
-use Rattle.compare.proofs.file.number_at.Tie as tie
+use Rattle.case_file.specs.File.{number-in}
+use Rattle.case_file.proofs.number_at.Statement.{statement}
+use Rattle.case_file.proofs.number_at.Tie as tie
 
 part-from-requires : tie.Need-part-from-requires
 part-from-requires c κs = search needs

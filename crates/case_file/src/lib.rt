@@ -1,9 +1,9 @@
-// Reading the file of cases. Every reader is total: a byte past the end is 0, and a part is cut where the bytes end. So nothing has to be
-// known of a file before it is read, and a damaged one gives cases that differ. Assumes nothing.
+// Reading the file of cases, whose format is reference/FORMAT.md. Every reader is total: a byte past the end is 0, and a part is cut where
+// the bytes end. So nothing has to be known of a file before it is read, and a damaged one gives cases that differ. Assumes nothing.
 ghost use mathlib.Core.Path.{_≡_};
 ghost use Prim.Native.Nat.{_+_, _*_, _≤_};
 ghost use lib.ListN.{take, drop};
-ghost use Rattle.compare.specs.File.{number-in, number-at};
+ghost use Rattle.case_file.specs.File.{number-in, number-at};
 use keys::grid_row::part_from;
 use keys::reader::byte;
 
