@@ -2,15 +2,15 @@
 use mathlib.Core.Path.{sym, ap}
 use native.Mathlib.Omega.{arith}
 use lib.ListN.{length}
-use Rattle.text.proofs.Laws.{decimal-one, length-more, decimal-few}
+use Rattle.digits.proofs.Laws.{decimal-one, length-more, decimal-few}
 use Prim.Native.Nat.{ℕ, _<_}
 use borrow.Fn.Kinds.{In}
 use borrow.Fn.PlainCycle.{Measures, is, falls, and}
-use Rattle.text.proofs.decimal_length.Reads as decimal-length
-use Rattle.text.proofs.decimal_length.Kinds as decimal-length-kinds
-use Rattle.text.proofs.+decimal_length.Lts-decimal_length as decimal-length-lts
-use Rattle.text.proofs.+decimal_length.{statement}
-use Rattle.text.proofs.+decimal_length.Tie.{close}
+use Rattle.digits.proofs.decimal_length.Reads as decimal-length
+use Rattle.digits.proofs.decimal_length.Kinds as decimal-length-kinds
+use Rattle.digits.proofs.+decimal_length.Lts-decimal_length as decimal-length-lts
+use Rattle.digits.proofs.+decimal_length.{statement}
+use Rattle.digits.proofs.+decimal_length.Tie.{close}
 
 abbrev μ-decimal-length : Measures 0 decimal-length-kinds.ps ℕ
 μ-decimal-length κs a = a .0

@@ -1,4 +1,4 @@
--- `text::put_hex` meets its contract. The loop's invariant: the digits of the first i bytes are written. Assumes nothing.
+-- `digits::put_hex` meets its contract. The loop's invariant: the digits of the first i bytes are written. Assumes nothing.
 use mathlib.Core.Path.{_≡_, refl, _∙_, subst}
 use mathlib.Core.List.{List}
 use Prim.Native.Nat.{ℕ, _-_, _≤_}
@@ -7,11 +7,11 @@ use lib.ListN.{length, take}
 use lib.Seq.{take-all}
 use denote.Ref.{now}
 use Rattle.writer.specs.Written.{Wrote}
-use Rattle.text.specs.Text.{hex}
+use Rattle.digits.specs.Digits.{hex}
 use Rattle.writer.proofs.Laws.{wrote-nothing}
-use Rattle.text.proofs.Laws.{hex-long, hex-front, hex-turn}
-use Rattle.text.proofs.put_hex.Statement.{statement}
-use Rattle.text.proofs.put_hex.Tie as tie
+use Rattle.digits.proofs.Laws.{hex-long, hex-front, hex-turn}
+use Rattle.digits.proofs.put_hex.Statement.{statement}
+use Rattle.digits.proofs.put_hex.Tie as tie
 
 abbrev Inv-loop : tie.InvT-loop
 Inv-loop out₀ at bytes next₀ i₀ out next i = (i ≤ length bytes) × (length out ≡ length out₀) × Wrote at (hex (take i bytes)) next out₀ out

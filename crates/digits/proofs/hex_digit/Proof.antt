@@ -1,9 +1,9 @@
--- `text::hex_digit` meets its contract. Assumes nothing.
+-- `digits::hex_digit` meets its contract. Assumes nothing.
 use borrow.Author.Tests.{lt-ltb, le-ltb}
-use Rattle.text.specs.Text.{hex-digit}
+use Rattle.digits.specs.Digits.{hex-digit}
 use borrow.Author.Needs.{needs}
-use Rattle.text.proofs.hex_digit.Statement.{statement}
-use Rattle.text.proofs.hex_digit.Tie as tie
+use Rattle.digits.proofs.hex_digit.Statement.{statement}
+use Rattle.digits.proofs.hex_digit.Tie as tie
 
 add-result : tie.Need-add-result
 add-result c = search needs

@@ -6,19 +6,19 @@ use Prim.Native.Nat.{_+_, _/_, _%_}
 use lib.ListN.{length}
 use denote.Ref.{now}
 use Rattle.writer.specs.Written.{Wrote}
-use Rattle.text.specs.Text.{decimal}
+use Rattle.digits.specs.Digits.{decimal}
 use Rattle.writer.proofs.Laws.{wrote-more}
-use Rattle.text.proofs.Laws.{decimal-one, decimal-more, length-more}
+use Rattle.digits.proofs.Laws.{decimal-one, decimal-more, length-more}
 use borrow.Author.Needs.{needs}
 use Prim.Native.Nat.{ℕ, _<_}
 use borrow.Fn.Kinds.{In}
 use borrow.Fn.PlainCycle.{Measures, is, falls, and}
-use Rattle.text.proofs.put_decimal.Reads as put-decimal
-use Rattle.text.proofs.put_decimal.Kinds as put-decimal-kinds
-use Rattle.text.proofs.+put_decimal.Lts-put_decimal as put-decimal-lts
+use Rattle.digits.proofs.put_decimal.Reads as put-decimal
+use Rattle.digits.proofs.put_decimal.Kinds as put-decimal-kinds
+use Rattle.digits.proofs.+put_decimal.Lts-put_decimal as put-decimal-lts
 use Rattle.writer.proofs.put_byte.Reads as put-byte-reads
-use Rattle.text.proofs.+put_decimal.{statement}
-use Rattle.text.proofs.+put_decimal.Tie.{close}
+use Rattle.digits.proofs.+put_decimal.{statement}
+use Rattle.digits.proofs.+put_decimal.Tie.{close}
 
 abbrev μ-put-decimal : Measures 1 put-decimal-kinds.ps ℕ
 μ-put-decimal κs a = a .1 .1 .0
