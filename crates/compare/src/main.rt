@@ -71,20 +71,35 @@ fn file_line(file: &[u8]) {
     text(b" cases\n");
 }
 
-// All lines.
-fn lines(file: &[u8]) {
-    file_line(file);
+// Lengths, dealing and checking.
+fn key_lines(file: &[u8]) {
     line(b"key length", KEY_LENGTH, file);
     line(b"deal", DEAL, file);
     line(b"check key", CHECK_KEY, file);
+}
+
+// Opening and joining.
+fn share_lines(file: &[u8]) {
     line(b"open one", OPEN_ONE, file);
     line(b"open all", OPEN_ALL, file);
     line(b"join shares", JOIN_SHARES, file);
     line(b"join keys", JOIN_KEYS, file);
+}
+
+// The operations on seeds and on numbers alone.
+fn small_lines(file: &[u8]) {
     line(b"held seed", HELD_SEED, file);
     line(b"expand", EXPAND, file);
     line(b"choose width", CHOOSE_WIDTH, file);
     line(b"sensor position", SENSOR_POSITION, file);
+}
+
+// All lines.
+fn lines(file: &[u8]) {
+    file_line(file);
+    key_lines(file);
+    share_lines(file);
+    small_lines(file);
     line(b"dealing program", DEALING_PROGRAM, file);
     line(b"joining program", JOINING_PROGRAM, file);
 }

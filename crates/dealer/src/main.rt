@@ -4,9 +4,9 @@ use libc::STDIN_FILENO;
 use libc::STDOUT_FILENO;
 
 fn main() {
-    let mut input = [0u8; 65537];
+    let mut input = program_output::input_buffer();
     let length = io::read_full(STDIN_FILENO, &mut input);
-    let mut output = [0u8; 65536];
+    let mut output = io::large_buffer();
     let written = dealing_program::dealing_program(&input[..length], &mut output);
     io::write_all(STDOUT_FILENO, &output[..written]);
 }

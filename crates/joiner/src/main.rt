@@ -5,10 +5,10 @@ use libc::STDIN_FILENO;
 use libc::STDOUT_FILENO;
 
 fn main() {
-    let mut input = [0u8; 65537];
+    let mut input = program_output::input_buffer();
     let length = io::read_full(STDIN_FILENO, &mut input);
-    let mut table = [0u8; 65536];
-    let mut output = [0u8; 600000];
+    let mut table = io::large_buffer();
+    let mut output = program_output::text_buffer();
     let written = joining_program::joining_program(&input[..length], &mut table, &mut output);
     io::write_all(STDOUT_FILENO, &output[..written]);
 }

@@ -6,21 +6,8 @@ ghost use mathlib.Core.Path.{_≡_};
 ghost use Prim.Native.Nat.{_≤_, _<_};
 ghost use lib.ListN.{length};
 
-// As many zeros as the most that a program reads. The `ensures` gives only the length, as in `io::buffer`.
-fn input_buffer() -> [u8; 65537]
-    ensures { λ r. ⌜ 65537 ≡ length r ⌝ }
-{
-    [0; 65537]
-}
-
-// As many zeros as the longest text takes.
-fn text_buffer() -> [u8; 600000]
-    ensures { λ r. ⌜ 600000 ≡ length r ⌝ }
-{
-    [0; 600000]
-}
-
-// One more, so that a longer file is known.
+// As many zeros as the joining program's output, and one more, so that a longer file is known. The `ensures` gives only the length, as in
+// `io::buffer`.
 fn file_buffer() -> [u8; 600001]
     ensures { λ r. ⌜ 600001 ≡ length r ⌝ }
 {
@@ -50,7 +37,7 @@ fn deals(input: &[u8], path: &[u8]) -> bool {
 // Whether the joining program writes the file.
 fn joins(input: &[u8], path: &[u8]) -> bool {
     let mut table = io::large_buffer();
-    let mut output = text_buffer();
+    let mut output = program_output::text_buffer();
     let written = joining_program::joining_program(input, &mut table, &mut output);
     stored(&output[..written], path)
 }
@@ -62,7 +49,7 @@ fn equal(program: &[u8], input_path: &[u8], output_path: &[u8]) -> bool {
         os::fail(input_path);
         return false;
     }
-    let mut input = input_buffer();
+    let mut input = program_output::input_buffer();
     let length = io::read_full(file, &mut input);
     libc::close(file);
     if check::same(program, b"deal") {
