@@ -3,31 +3,7 @@
 ghost use mathlib.Core.Path.{_≡_};
 ghost use mathlib.Core.Bool.{true};
 ghost use lib.ListN.{getD};
-ghost use Rattle.compare.specs.Answers.{Left};
-use crate::answers::Answered;
-use crate::answers::alone;
-use crate::answers::answer;
-use crate::answers::fill;
-use crate::answers::left;
-use crate::answers::same_numbers;
-use crate::answers::with_value;
-use crate::file::FILL;
-use crate::file::INPUT_1;
-use crate::file::INPUT_2;
-use crate::file::INPUT_3;
-use crate::file::INPUT_4;
-use crate::file::LENT;
-use crate::file::NUMBER_1;
-use crate::file::NUMBER_2;
-use crate::file::NUMBER_3;
-use crate::file::NUMBER_4;
-use crate::file::NUMBER_5;
-use crate::file::OPERATION;
-use crate::file::RESULT_1;
-use crate::file::front;
-use crate::file::length_at;
-use crate::file::number_at;
-use crate::file::part;
+ghost use Rattle.answers.specs.Answers.{Left};
 use crate::operations::CHECK_KEY;
 use crate::operations::CHOOSE_WIDTH;
 use crate::operations::DEAL;
@@ -41,6 +17,29 @@ use crate::operations::KEY_LENGTH;
 use crate::operations::OPEN_ALL;
 use crate::operations::OPEN_ONE;
 use crate::operations::SENSOR_POSITION;
+use answers::Answered;
+use answers::alone;
+use answers::answer;
+use answers::fill;
+use answers::left;
+use answers::same_numbers;
+use case_file::FILL;
+use case_file::INPUT_1;
+use case_file::INPUT_2;
+use case_file::INPUT_3;
+use case_file::INPUT_4;
+use case_file::LENT;
+use case_file::NUMBER_1;
+use case_file::NUMBER_2;
+use case_file::NUMBER_3;
+use case_file::NUMBER_4;
+use case_file::NUMBER_5;
+use case_file::OPERATION;
+use case_file::RESULT_1;
+use case_file::front;
+use case_file::length_at;
+use case_file::number_at;
+use case_file::part;
 use key_reading::byte;
 use nosingginger::KeyCheck;
 
@@ -176,13 +175,13 @@ fn held_seed(head: &[u8], inputs: &[u8], answer: &[u8]) -> bool {
 
 // The dealing program answers bytes alone.
 fn dealing_program(inputs: &[u8], answer: &[u8], output: &mut [u8]) -> bool {
-    let written = programs::dealing_program(inputs, output);
+    let written = dealing_program::dealing_program(inputs, output);
     check::same(front(output, written), answer)
 }
 
 // The joining program too; it is lent a table beside its output.
 fn joining_program(inputs: &[u8], answer: &[u8], table: &mut [u8], output: &mut [u8]) -> bool {
-    let written = programs::joining_program(inputs, table, output);
+    let written = joining_program::joining_program(inputs, table, output);
     check::same(front(output, written), answer)
 }
 

@@ -2,16 +2,16 @@
 ghost use Prim.Native.Nat.{_≤_, _+_, _<_};
 ghost use mathlib.Core.Path.{_≡_};
 use crate::calls::equal;
-use crate::file::FILE_HEAD_BYTES;
-use crate::file::HEAD_BYTES;
-use crate::file::OPERATION;
-use crate::file::REFUSAL;
-use crate::file::answer_length;
-use crate::file::count;
-use crate::file::further;
-use crate::file::inputs_kept;
-use crate::file::inputs_length;
-use crate::file::part;
+use case_file::FILE_HEAD_BYTES;
+use case_file::HEAD_BYTES;
+use case_file::OPERATION;
+use case_file::REFUSAL;
+use case_file::answer_length;
+use case_file::count;
+use case_file::further;
+use case_file::inputs_kept;
+use case_file::inputs_length;
+use case_file::part;
 use key_reading::byte;
 use libc::STDOUT_FILENO;
 

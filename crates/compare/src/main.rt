@@ -3,10 +3,8 @@
 // A line for each operation says how many cases it has, how many of them are refusals, and how many are equal; a line `DIFFERENT case n`,
 // counted from 0, stands before it for each that is not. The checksum holds those bytes, such as a seed in a key that is only checked, on
 // which no answer depends. `reference/make-data` makes the file again. Assumes nothing.
-mod answers;
 mod calls;
 mod cases;
-mod file;
 mod operations;
 
 ghost use mathlib.Core.Path.{_≡_};
@@ -67,26 +65,41 @@ fn line(name: &[u8], operation: u8, file: &[u8]) {
 fn file_line(file: &[u8]) {
     io::print_decimal(STDOUT_FILENO, file.len() as u64);
     text(b" bytes, checksum ");
-    io::print_hex(STDOUT_FILENO, file::checksum(file) as u64, 8);
+    io::print_hex(STDOUT_FILENO, case_file::checksum(file) as u64, 8);
     text(b", ");
-    number(file::count(file));
+    number(case_file::count(file));
     text(b" cases\n");
+}
+
+// Lengths, dealing and checking.
+fn key_lines(file: &[u8]) {
+    line(b"key length", KEY_LENGTH, file);
+    line(b"deal", DEAL, file);
+    line(b"check key", CHECK_KEY, file);
+}
+
+// Opening and joining.
+fn share_lines(file: &[u8]) {
+    line(b"open one", OPEN_ONE, file);
+    line(b"open all", OPEN_ALL, file);
+    line(b"join shares", JOIN_SHARES, file);
+    line(b"join keys", JOIN_KEYS, file);
+}
+
+// The operations on seeds and on numbers alone.
+fn small_lines(file: &[u8]) {
+    line(b"held seed", HELD_SEED, file);
+    line(b"expand", EXPAND, file);
+    line(b"choose width", CHOOSE_WIDTH, file);
+    line(b"sensor position", SENSOR_POSITION, file);
 }
 
 // All lines.
 fn lines(file: &[u8]) {
     file_line(file);
-    line(b"key length", KEY_LENGTH, file);
-    line(b"deal", DEAL, file);
-    line(b"check key", CHECK_KEY, file);
-    line(b"open one", OPEN_ONE, file);
-    line(b"open all", OPEN_ALL, file);
-    line(b"join shares", JOIN_SHARES, file);
-    line(b"join keys", JOIN_KEYS, file);
-    line(b"held seed", HELD_SEED, file);
-    line(b"expand", EXPAND, file);
-    line(b"choose width", CHOOSE_WIDTH, file);
-    line(b"sensor position", SENSOR_POSITION, file);
+    key_lines(file);
+    share_lines(file);
+    small_lines(file);
     line(b"dealing program", DEALING_PROGRAM, file);
     line(b"joining program", JOINING_PROGRAM, file);
 }

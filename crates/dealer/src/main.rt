@@ -1,12 +1,12 @@
 // The dealing program: five numbers, value, arrays, seeds and words from standard input, the keys or `refused n` to standard output. It
-// reads one byte more than the most, so that an input above that is known. The work is `programs::dealing_program`. Assumes nothing.
+// reads one byte more than the most, so that an input above that is known. The work is `dealing_program::dealing_program`. Assumes nothing.
 use libc::STDIN_FILENO;
 use libc::STDOUT_FILENO;
 
 fn main() {
-    let mut input = [0u8; 65537];
+    let mut input = program_output::input_buffer();
     let length = io::read_full(STDIN_FILENO, &mut input);
-    let mut output = [0u8; 65536];
-    let written = programs::dealing_program(&input[..length], &mut output);
+    let mut output = io::large_buffer();
+    let written = dealing_program::dealing_program(&input[..length], &mut output);
     io::write_all(STDOUT_FILENO, &output[..written]);
 }

@@ -2,8 +2,17 @@
 // the list, data/cases, names a program, the file that it reads and the file that it must write, with one space between them. Each case
 // is compared as this program runs, and a line says whether what is written is equal to the file, byte for byte. Assumes nothing.
 use libc::STDOUT_FILENO;
+ghost use mathlib.Core.Path.{_≡_};
 ghost use Prim.Native.Nat.{_≤_, _<_};
 ghost use lib.ListN.{length};
+
+// As many zeros as the joining program's output, and one more, so that a longer file is known. The `ensures` gives only the length, as in
+// `io::buffer`.
+fn file_buffer() -> [u8; 600001]
+    ensures { λ r. ⌜ 600001 ≡ length r ⌝ }
+{
+    [0; 600001]
+}
 
 // Whether a file of data/ has these bytes and no others.
 fn stored(bytes: &[u8], path: &[u8]) -> bool {
@@ -12,7 +21,7 @@ fn stored(bytes: &[u8], path: &[u8]) -> bool {
         os::fail(path);
         return false;
     }
-    let mut expected = [0u8; 600001];
+    let mut expected = file_buffer();
     let length = io::read_full(file, &mut expected);
     libc::close(file);
     check::same(bytes, &expected[..length])
@@ -20,16 +29,16 @@ fn stored(bytes: &[u8], path: &[u8]) -> bool {
 
 // Whether the dealing program writes the file.
 fn deals(input: &[u8], path: &[u8]) -> bool {
-    let mut output = [0u8; 65536];
-    let written = programs::dealing_program(input, &mut output);
+    let mut output = io::large_buffer();
+    let written = dealing_program::dealing_program(input, &mut output);
     stored(&output[..written], path)
 }
 
 // Whether the joining program writes the file.
 fn joins(input: &[u8], path: &[u8]) -> bool {
-    let mut table = [0u8; 65536];
-    let mut output = [0u8; 600000];
-    let written = programs::joining_program(input, &mut table, &mut output);
+    let mut table = io::large_buffer();
+    let mut output = program_output::text_buffer();
+    let written = joining_program::joining_program(input, &mut table, &mut output);
     stored(&output[..written], path)
 }
 
@@ -40,7 +49,7 @@ fn equal(program: &[u8], input_path: &[u8], output_path: &[u8]) -> bool {
         os::fail(input_path);
         return false;
     }
-    let mut input = [0u8; 65537];
+    let mut input = program_output::input_buffer();
     let length = io::read_full(file, &mut input);
     libc::close(file);
     if check::same(program, b"deal") {

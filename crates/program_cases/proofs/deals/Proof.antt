@@ -2,10 +2,13 @@
 use mathlib.Core.Path.{sym}
 use native.Mathlib.Omega.{arith}
 use lib.Seq.{length-take-le}
-use Rattle.programs.proofs.Writing.{writes-within}
+use Rattle.program_output.proofs.Writing.{writes-within}
 use borrow.Author.Needs.{needs}
 use Rattle.program_cases.proofs.deals.Statement.{statement}
 use Rattle.program_cases.proofs.deals.Tie as tie
+
+large-buffer-requires : tie.Need-large-buffer-requires
+large-buffer-requires c κs = search needs
 
 slice-aggregate-dealing-program : tie.Need-slice-aggregate-dealing-program
 slice-aggregate-dealing-program c = search needs
@@ -30,6 +33,7 @@ pub deals-spec : {M : Type 1} → statement M
 deals-spec =
     tie.close
     (tie.spec
+    large-buffer-requires
     slice-aggregate-dealing-program
     dealing-program-requires
     array-share-prefix-output

@@ -2,10 +2,16 @@
 use mathlib.Core.Path.{sym}
 use native.Mathlib.Omega.{arith}
 use lib.Seq.{length-take-le}
-use Rattle.programs.proofs.Joinings.{joins-within}
+use Rattle.joining_program.proofs.Joinings.{joins-within}
 use borrow.Author.Needs.{needs}
 use Rattle.program_cases.proofs.joins.Statement.{statement}
 use Rattle.program_cases.proofs.joins.Tie as tie
+
+large-buffer-requires : tie.Need-large-buffer-requires
+large-buffer-requires c κs = search needs
+
+text-buffer-requires : tie.Need-text-buffer-requires
+text-buffer-requires c κs = search needs
 
 slice-aggregate-joining-program : tie.Need-slice-aggregate-joining-program
 slice-aggregate-joining-program c = search needs
@@ -33,6 +39,8 @@ pub joins-spec : {M : Type 1} → statement M
 joins-spec =
     tie.close
     (tie.spec
+    large-buffer-requires
+    text-buffer-requires
     slice-aggregate-joining-program
     slice-aggregate-joining-program-2
     joining-program-requires

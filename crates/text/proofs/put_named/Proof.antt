@@ -2,7 +2,8 @@
 use Prim.Native.Nat.{_-_}
 use native.Mathlib.Omega.{arith}
 use denote.Ref.{now}
-use Rattle.text.specs.Text.{decimal, named}
+use Rattle.digits.specs.Digits.{decimal}
+use Rattle.text.specs.Text.{named}
 use Rattle.writer.proofs.Laws.{wrote-then}
 use Rattle.text.proofs.Laws.{named-length}
 use borrow.Author.Needs.{needs}

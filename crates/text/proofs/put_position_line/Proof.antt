@@ -3,8 +3,10 @@ use mathlib.Core.List.{[], _∷_}
 use Prim.Native.Nat.{_-_}
 use native.Mathlib.Omega.{arith}
 use denote.Ref.{now}
-use Rattle.text.specs.Text.{decimal, hex, position-line, line-feed}
-use Rattle.text.proofs.Laws.{line-length, hex-long, wrote-four}
+use Rattle.digits.specs.Digits.{decimal, hex}
+use Rattle.digits.proofs.Laws.{hex-long}
+use Rattle.text.specs.Text.{position-line, line-feed}
+use Rattle.text.proofs.Laws.{line-length, wrote-four}
 use borrow.Author.Needs.{needs}
 use Rattle.text.proofs.put_position_line.Statement.{statement}
 use Rattle.text.proofs.put_position_line.Tie as tie

@@ -4,7 +4,7 @@ use mathlib.Core.Bool.{true≢false}
 use Prim.Native.Nat.{ℕ}
 use denote.Ref.{now}
 use borrow.Author.Needs.{needs}
-use Rattle.compare.specs.Answers.{Left}
+use Rattle.answers.specs.Answers.{Left}
 use Rattle.compare.proofs.calls.on_lent.Statement.{statement}
 use Rattle.compare.proofs.calls.on_lent.Tie as tie
 

@@ -1,0 +1,2 @@
+-- The laws that the dealing program's proofs cite. Assumes nothing.
+mod Dealings

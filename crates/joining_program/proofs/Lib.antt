@@ -1,0 +1,2 @@
+-- The laws that the joining program's proofs cite. Assumes nothing.
+pub mod Joinings

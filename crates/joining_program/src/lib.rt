@@ -1,0 +1,101 @@
+// The joining program as one function on slices: p keys in, the text of the joined table out, which stands at the front of the lent output.
+// It requires nothing. Its meaning is specs/Joining.antt. Assumes nothing.
+use key_check::check::REFUSED_LENGTH;
+use key_check::check::REFUSED_NUMBER;
+use key_check::check::REFUSED_PLAYER;
+use key_reading::Heading;
+use key_reading::header_in;
+use nosingginger::join_keys;
+use nosingginger::refusals::ACCEPTED;
+use program_output::MOST_BYTES;
+use program_output::put_refusal;
+ghost use mathlib.Core.Path.{_≡_};
+ghost use Prim.Native.Nat.{_*_, _≤_};
+ghost use lib.Dec.{leb};
+ghost use lib.ListN.{length, take};
+ghost use Rattle.keys.specs.Keys.{head-in};
+ghost use Rattle.text.specs.Text.{table-text};
+ghost use Rattle.entry.specs.Entry.{or-else, Put-says};
+ghost use Rattle.join_calls.specs.JoinKeys.{head-refusal};
+ghost use Rattle.program_output.specs.Output.{Writes, most-bytes};
+ghost use Rattle.joining_program.specs.Joining.{Joins, joining-refusal, joined};
+
+// The number of an input that is longer than any: the first key's own, 10, 1 to 5 and 11, or else 12.
+fn long_refusal(input: &[u8]) -> u32
+    ensures { λ r. ⌜ r ≡ or-else (head-refusal (head-in (now (input .entry)))) 12 ⌝ }
+{
+    let Heading::Whole(header, _) = header_in(input) else {
+        return REFUSED_NUMBER;
+    };
+    let board = header.board;
+    let refusal = board.refusal();
+    if refusal != ACCEPTED {
+        return refusal;
+    }
+    if board.players <= header.player {
+        return REFUSED_PLAYER;
+    }
+    REFUSED_LENGTH
+}
+
+// Joins the keys of an input into the front of a table, or answers the number that refuses.
+fn join_input(input: &[u8], table: &mut [u8]) -> u32
+    requires { ⌜ most-bytes ≤ length (now table) ⌝ }
+    ensures { λ r. ⌜ Put-says (joining-refusal (now (input .entry))) (joined (now (input .entry))) r (now (table .entry)) (now (table .exit)) ⌝ }
+{
+    if MOST_BYTES < input.len() {
+        return long_refusal(input);
+    }
+    let most = MOST_BYTES;
+    join_keys(input, &mut table[..most])
+}
+
+// Writes a joined table, where its text has room.
+fn put_text(
+    players: u32,
+    positions: u32,
+    value_bytes: u32,
+    table: &[u8],
+    output: &mut [u8],
+) -> usize
+    requires { ⌜ («value_bytes» ≤ 65536) × (length (now table) ≡ positions * «value_bytes») ⌝ }
+    ensures { λ r. ⌜ Writes (table-text players positions «value_bytes» (now (table .entry))) r (now (output .entry)) (now (output .exit)) ⌝ }
+{
+    if output.len() < text::table_length(players, positions, value_bytes, table) {
+        return 0;
+    }
+    text::put_table(output, 0, players, positions, value_bytes, table)
+}
+
+// Writes the text of the table that an accepted input's keys were joined into.
+fn put_joined(input: &[u8], table: &[u8], output: &mut [u8]) -> usize
+    requires { ⌜ (joining-refusal (now input) ≡ 0) × (most-bytes ≤ length (now table)) ⌝ }
+    ensures { λ r. ⌜ Writes (table-text (head-in (now (input .entry)) .board .p) (head-in (now (input .entry)) .board .n) (head-in (now (input .entry)) .board .w) (take (head-in (now (input .entry)) .board .n * head-in (now (input .entry)) .board .w) (now (table .entry)))) r (now (output .entry)) (now (output .exit)) ⌝ }
+{
+    let Heading::Whole(header, _) = header_in(input) else {
+        return 0;
+    };
+    let board = header.board;
+    let end = (board.positions * board.value_bytes) as usize;
+    put_text(
+        board.players,
+        board.positions,
+        board.value_bytes,
+        &table[..end],
+        output,
+    )
+}
+
+// THE JOINING PROGRAM: 10, 1 to 5, 11, 12, each key's own in turn, 9; or the joined table's text. The table is lent to join in.
+pub fn joining_program(input: &[u8], table: &mut [u8], output: &mut [u8]) -> usize
+    ensures { λ r. ⌜ Joins (leb most-bytes (length (now (table .entry)))) (now (input .entry)) r (now (table .entry)) (now (table .exit)) (now (output .entry)) (now (output .exit)) ⌝ }
+{
+    if table.len() < MOST_BYTES {
+        return 0;
+    }
+    let refusal = join_input(input, table);
+    if refusal != ACCEPTED {
+        return put_refusal(refusal, output);
+    }
+    put_joined(input, table, output)
+}

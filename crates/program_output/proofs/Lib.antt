@@ -1,0 +1,2 @@
+-- The laws of outputs, which both programs' proofs cite. Assumes nothing.
+pub mod Writing

@@ -1,4 +1,0 @@
--- The laws that the two programs' proofs cite. Assumes nothing.
-pub mod Writing
-pub mod Joinings
-pub mod Dealings
