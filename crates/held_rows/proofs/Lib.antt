@@ -1,2 +1,3 @@
 -- The laws of a grid row's bytes. Assumes nothing.
 pub mod RowBytes
+mod Spread

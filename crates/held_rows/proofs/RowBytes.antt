@@ -9,15 +9,15 @@ use lib.Pow.{pow-mono}
 use native.Mathlib.Numerals.{add-one}
 use lib.ListN.{length, getD, take, drop, length-append, drop-of-length-le, List·getD-eq-default}
 use lib.Dec.{leb, eqb}
-use lib.Seq.{drop-cons, drop-drop}
+use lib.Seq.{drop-cons, drop-drop, take-all}
 use borrow.Author.Tests.{leb-true, leb-false}
 use Rattle.grid.specs.Grid.{Board, columns, grid-rows, bit}
 use Rattle.grid.proofs.Facts.{Board-in, columns-most}
 use Rattle.keys.specs.Keys.{packed-from, packed, held-seeds, mark-bytes, body-from}
 use Rattle.keys.proofs.Marks.{bit-nothing}
 use Rattle.writer.specs.Written.{Wrote}
-use Rattle.writer.proofs.Laws.{wrote-more}
-use Rattle.held_rows.specs.Rows.{mark-digit, row-bytes}
+use Rattle.writer.proofs.Laws.{wrote-more, wrote-nothing, wrote-length}
+use Rattle.held_rows.specs.Rows.{mark-digit, column-seed, row-bytes}
 use Rattle.writer.proofs.Cuts.{part-long, part-whole, rest-is, rest-long}
 
 -- MARKS PACKED
@@ -76,7 +76,7 @@ packed-next n i from cs = go (leb (length cs) from) refl
         (digit (bit (getD cs from 0) i) (packed-from n 0 i (drop (suc from) cs)) (packed-from n 1 i (drop (suc from) cs)) (packed-double n 0 i (drop (suc from) cs)))
 
 -- the digit that the code reads
-digit-is : (v i : ℕ) → v / 2 ^ i % 2 ≡ mark-digit v i
+pub digit-is : (v i : ℕ) → v / 2 ^ i % 2 ≡ mark-digit v i
 unfolding mark-digit bit
 digit-is v i = digit (v / 2 ^ i % 2) (omega arith)
   where
@@ -85,7 +85,7 @@ digit-is v i = digit (v / 2 ^ i % 2) (omega arith)
     digit (suc zero) h = refl
     digit (suc (suc x)) h = omega arith
 
--- MARKS BY TWO, FOUR AND EIGHT
+-- MARKS BY FOUR AND EIGHT
 
 packed-none : (n k i : ℕ) → packed-from n k i [] ≡ 0
 unfolding packed-from
@@ -113,13 +113,6 @@ up-four : (n i : ℕ) (cs : List ℕ) → packed-from n 4 i cs ≡ 16 * packed-f
 up-four n i cs = omega (arith, packed-double n 3 i cs, packed-double n 2 i cs, up-two n i cs)
 
 module _ (i from : ℕ) (cs : List ℕ) where
-  pub two-packed : getD cs (from + 1) 0 / 2 ^ i % 2 * 2 + getD cs from 0 / 2 ^ i % 2 ≡ packed-from 2 0 i (drop from cs)
-  unfolding packed-from
-  two-packed = rw (add-one from, digit-is (getD cs (suc from) 0) i, digit-is (getD cs from 0) i) (omega (arith, packed-next 0 i (suc from) cs, packed-next 1 i from cs))
-
-  pub four-packed : {low high : ℕ} → low ≡ packed-from 2 0 i (drop from cs) → high ≡ packed-from 2 0 i (drop (from + 2) cs) → low + 4 * high ≡ packed-from 4 0 i (drop from cs)
-  four-packed p q = omega (arith, p, q ∙ ap (λ (l : List ℕ). packed-from 2 0 i l) (sym (drop-drop 2 from cs)), packed-add 2 2 0 i (drop from cs), up-two 2 i (drop 2 (drop from cs)))
-
   pub eight-packed : {low high : ℕ} → low ≡ packed-from 4 0 i (drop from cs) → high ≡ packed-from 4 0 i (drop (from + 4) cs) → low + 16 * high ≡ packed-from 8 0 i (drop from cs)
   eight-packed p q = omega (arith, p, q ∙ ap (λ (l : List ℕ). packed-from 4 0 i l) (sym (drop-drop 4 from cs)), packed-add 4 4 0 i (drop from cs), up-four 4 i (drop 4 (drop from cs)))
 
@@ -164,9 +157,8 @@ held-split (suc j) i (c ∷ cs) ss =
     (sym (append-assoc (cond (bit c i) (take 32 ss) []) (held-seeds i (take j cs) (drop 32 ss)) (held-seeds i (drop j cs) (drop (32 * suc j) ss))))
 
 -- one more
-pub held-snoc : (j i : ℕ) (cs ss : List ℕ) → j < length cs →
-    held-seeds i (take (suc j) cs) ss ≡ held-seeds i (take j cs) ss ++ cond (bit (getD cs j 0) i) (take 32 (drop (32 * j) ss)) []
-unfolding held-seeds
+pub held-snoc : (j i : ℕ) (cs ss : List ℕ) → j < length cs → held-seeds i (take (suc j) cs) ss ≡ held-seeds i (take j cs) ss ++ column-seed i j cs ss
+unfolding held-seeds column-seed
 held-snoc zero i [] ss h = let none : ⊥ = omega arith in absurd none
 held-snoc zero i (c ∷ cs) ss h = append-nil (cond (bit c i) (take 32 ss) [])
 held-snoc (suc j) i [] ss h = let none : ⊥ = omega arith in absurd none
@@ -176,29 +168,39 @@ held-snoc (suc j) i (c ∷ cs) ss h =
     (sym (append-assoc (cond (bit c i) (take 32 ss) []) (held-seeds i (take j cs) (drop 32 ss)) (cond (bit (getD cs j 0) i) (take 32 (drop (32 * suc j) ss)) [])))
 
 -- so the seeds of some columns and of the next are no longer than those of all
-pub held-within : (j i : ℕ) (cs ss : List ℕ) → j < length cs →
-    length (held-seeds i (take j cs) ss) + length (cond (bit (getD cs j 0) i) (take 32 (drop (32 * j) ss)) []) ≤ length (held-seeds i cs ss)
+held-within : (j i : ℕ) (cs ss : List ℕ) → j < length cs →
+    length (held-seeds i (take j cs) ss) + length (column-seed i j cs ss) ≤ length (held-seeds i cs ss)
 held-within j i cs ss h =
     let before = held-seeds i (take j cs) ss in
-    let next = cond (bit (getD cs j 0) i) (take 32 (drop (32 * j) ss)) [] in
+    let next = column-seed i j cs ss in
     let behind = held-seeds i (drop (suc j) cs) (drop (32 * suc j) ss) in
     let whole : length (held-seeds i cs ss) ≡ length (before ++ next) + length behind =
     ap length (held-split (suc j) i cs ss ∙ ap (λ (l : List ℕ). l ++ behind) (held-snoc j i cs ss h)) ∙ length-append (before ++ next) behind in
     omega (arith, length-append before next)
 
--- writing one more
-pub held-turn : (at column player : ℕ) (held : Bool) {next after : ℕ} (array seeds : List ℕ) {old between now : List ℕ} → column < length array →
-    at + length (held-seeds player array seeds) ≤ length old → held ≡ bit (getD array column 0) player →
-    Wrote at (held-seeds player (take column array) seeds) next old between →
-    Wrote next (cond held (take 32 (drop (32 * column) seeds)) []) after between now →
-    Wrote at (held-seeds player (take (column + 1) array) seeds) after old now
-held-turn at column player held array seeds {old} within room is p q =
-    let before = held-seeds player (take column array) seeds in
-    let next = cond held (take 32 (drop (32 * column) seeds)) [] in
-    let grown : held-seeds player (take (column + 1) array) seeds ≡ before ++ next = rw (add-one, is) (held-snoc column player array seeds within) in
-    let long : length (held-seeds player (take (column + 1) array) seeds) ≡ length before + length next = ap length grown ∙ length-append before next in
-    let fits : length before + length next ≤ length (held-seeds player array seeds) = rw is (held-within column player array seeds within) in
-    wrote-more before next (held-seeds player (take (column + 1) array) seeds) grown (omega arith) p q
+-- WRITING THEM where there is room for all
+module _ (at player : ℕ) (array seeds old : List ℕ) (room : at + length (held-seeds player array seeds) ≤ length old) where
+  pub held-none : Wrote at (held-seeds player (take 0 array) seeds) at old old
+  unfolding held-seeds
+  held-none = wrote-nothing at old
+
+  module _ (column : ℕ) {next : ℕ} {between : List ℕ} (within : column < length array) (so-far : Wrote at (held-seeds player (take column array) seeds) next old between) where
+    -- there is room for the next
+    pub held-room : next + length (column-seed player column array seeds) ≤ length between
+    held-room =
+        let fits = held-within column player array seeds within in
+        let same = wrote-length (held-seeds player (take column array) seeds) (omega arith) so-far in
+        omega (arith, so-far .next-is)
+
+    -- and with it one more is written
+    pub held-turn : {after : ℕ} {now : List ℕ} → Wrote next (column-seed player column array seeds) after between now →
+        Wrote at (held-seeds player (take (column + 1) array) seeds) after old now
+    held-turn p =
+        let before = held-seeds player (take column array) seeds in
+        let seed = column-seed player column array seeds in
+        let grown : held-seeds player (take (column + 1) array) seeds ≡ before ++ seed = rw add-one (held-snoc column player array seeds within) in
+        let long : length (held-seeds player (take (column + 1) array) seeds) ≡ length before + length seed = ap length grown ∙ length-append before seed in
+        wrote-more before seed (held-seeds player (take (column + 1) array) seeds) grown (omega (arith, held-within column player array seeds within)) so-far p
 
 -- GRID ROWS
 
@@ -206,6 +208,16 @@ held-turn at column player held array seeds {old} within room is p q =
 pub row-parts : (m i : ℕ) (cs ss : List ℕ) → length (row-bytes m i cs ss) ≡ m + length (held-seeds i cs ss)
 unfolding row-bytes
 row-parts m i cs ss = length-append (packed m i cs) (held-seeds i cs ss) ∙ ap (λ (n : ℕ). n + length (held-seeds i cs ss)) (packed-long m i cs)
+
+-- a grid row of four columns: a byte of marks, and four columns' seeds
+pub four-row : (at player : ℕ) {byte next after : ℕ} (array seeds : List ℕ) {old between now : List ℕ} → length array ≡ 4 →
+    at + length (row-bytes 1 player array seeds) ≤ length old → byte ≡ packed-from 4 0 player (drop 0 array) → Wrote at (byte ∷ []) next old between →
+    Wrote next (held-seeds player (take 4 array) seeds) after between now → Wrote at (row-bytes 1 player array seeds) after old now
+unfolding row-bytes packed
+four-row at player {byte} array seeds four room is p q =
+    let all : take 4 array ≡ array = take-all 4 array (omega arith) in
+    let grown : row-bytes 1 player array seeds ≡ (byte ∷ []) ++ held-seeds player (take 4 array) seeds = rw (all, last-four player 0 array is (omega arith)) in
+    wrote-more (byte ∷ []) (held-seeds player (take 4 array) seeds) (row-bytes 1 player array seeds) grown room p q
 
 -- grid row g of a player's key
 unfoldable pub row-at : (g : ℕ) → Board → (player : ℕ) → (arrays seeds : List ℕ) → List ℕ
@@ -268,6 +280,12 @@ pub row-seeds : (from J : ℕ) (arrays seeds : List ℕ) → from + J ≤ length
     32 * length (take (from + J - from) (drop from arrays)) ≤ length (take (length seeds - 32 * from) (drop (32 * from) seeds))
 row-seeds from J arrays seeds h long =
     rw (part-whole from J arrays h) (rest-long (32 * from) (32 * J) seeds (omega arith))
+
+-- and its marks are an eighth of its columns, rounded up
+pub row-marks : (from J m : ℕ) (b : Board) (arrays : List ℕ) → J ≡ columns b → m ≡ mark-bytes b → from + J ≤ length arrays →
+    m ≡ (length (take (from + J - from) (drop from arrays)) + 7) / 8
+unfolding mark-bytes
+row-marks from J m b arrays e f h = rw (part-whole from J arrays h, e) f
 
 -- a grid row has at most five bytes of marks
 pub mark-bytes-most : (b : Board) → Board-in b → mark-bytes b ≤ 100

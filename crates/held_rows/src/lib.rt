@@ -2,12 +2,12 @@
 ghost use mathlib.Core.Path.{_≡_};
 ghost use mathlib.Core.Bool.{cond};
 ghost use mathlib.Core.List.{[]};
-ghost use Prim.Native.Nat.{_+_, _*_, _≤_, _<_};
+ghost use Prim.Native.Nat.{_+_, _*_, _/_, _≤_, _<_};
 ghost use lib.ListN.{length, getD, drop};
 ghost use Rattle.grid.specs.Grid.{bit, board-refusal, columns, grid-rows};
 ghost use Rattle.grid.specs.Code.{board-of};
 ghost use Rattle.keys.specs.Keys.{packed-from, packed, held-seeds, body-from};
-ghost use Rattle.held_rows.specs.Rows.{mark-digit, row-bytes};
+ghost use Rattle.held_rows.specs.Rows.{mark-digit, spread-marks, column-seed, row-bytes};
 ghost use Rattle.writer.specs.Written.{Wrote};
 use grid::board::Board;
 use keys::grid_row::SEED_BYTES;
@@ -51,21 +51,29 @@ fn few_marks(array: &[u8], from: usize, player: u32) -> u8
     byte
 }
 
-// The player's marks in two columns, and in four, that are there: the same without asking at each.
-fn two_marks(array: &[u8], from: usize, player: u32) -> u8
-    requires { ⌜ (player < 8) × (from + 2 ≤ length (now array)) ⌝ }
-    ensures { λ r. ⌜ r ≡ packed-from 2 0 player (drop from (now (array .entry))) ⌝ }
+// The player's marks in four columns, each in a byte of its own.
+fn spread_marks(first: u8, second: u8, third: u8, fourth: u8, player: u32) -> u32
+    requires { ⌜ player < 8 ⌝ }
+    ensures { λ r. ⌜ r ≡ spread-marks first second third fourth player ⌝ }
 {
-    let first = (array[from] >> player) % 2;
-    let second = (array[from + 1] >> player) % 2;
-    second * 2 + first
+    let word = first as u32 + 256 * (second as u32 + 256 * (third as u32 + 256 * (fourth as u32)));
+    (word >> player) & 0x01010101
 }
 
+// The player's marks in four columns that are there: the same without asking at each. The product has the k-th of them, which stands in
+// byte k, in bit 24 + k, and nothing else in these four bits.
 fn four_marks(array: &[u8], from: usize, player: u32) -> u8
     requires { ⌜ (player < 8) × (from + 4 ≤ length (now array)) ⌝ }
     ensures { λ r. ⌜ r ≡ packed-from 4 0 player (drop from (now (array .entry))) ⌝ }
 {
-    two_marks(array, from, player) + 4 * two_marks(array, from + 2, player)
+    let spread = spread_marks(
+        array[from],
+        array[from + 1],
+        array[from + 2],
+        array[from + 3],
+        player,
+    );
+    (spread as u64 * 0x01020408 / 16777216 % 16) as u8
 }
 
 // The player's marks in eight columns from `from` on as one byte.
@@ -118,6 +126,23 @@ fn put_if(out: &mut [u8], at: usize, held: bool, seed: &[u8]) -> usize
     at
 }
 
+// Writes the seed of a column where the player marks it.
+fn put_column(
+    out: &mut [u8],
+    at: usize,
+    player: u32,
+    column: usize,
+    array: &[u8],
+    seeds: &[u8],
+) -> usize
+    requires { ⌜ (player < 8) × (column < length (now array)) × (32 * length (now array) ≤ length (now seeds)) × (at + length (column-seed player column (now array) (now seeds)) ≤ length (now out)) ⌝ }
+    ensures { λ r. ⌜ Wrote at (column-seed player column (now (array .entry)) (now (seeds .entry))) r (now (out .entry)) (now (out .exit)) ⌝ }
+{
+    let from = SEED_BYTES * column;
+    let end = from + SEED_BYTES;
+    put_if(out, at, marked(array[column], player), &seeds[from..end])
+}
+
 // Writes the seeds of the columns that the player marks, in column order.
 fn put_held(out: &mut [u8], at: usize, player: u32, array: &[u8], seeds: &[u8]) -> usize
     requires { ⌜ (player < 8) × (32 * length (now array) ≤ length (now seeds)) × (at + length (held-seeds player (now array) (now seeds)) ≤ length (now out)) ⌝ }
@@ -126,12 +151,22 @@ fn put_held(out: &mut [u8], at: usize, player: u32, array: &[u8], seeds: &[u8]) 
     let mut next = at;
     let mut column: usize = 0;
     while column < array.len() {
-        let from = SEED_BYTES * column;
-        let end = from + SEED_BYTES;
-        next = put_if(out, next, marked(array[column], player), &seeds[from..end]);
+        next = put_column(out, next, player, column, array, seeds);
         column += 1;
     }
     next
+}
+
+// Writes a grid row of four columns, as three players have: the same without loops.
+fn put_four(out: &mut [u8], at: usize, player: u32, array: &[u8], seeds: &[u8]) -> usize
+    requires { ⌜ (player < 8) × (length (now array) ≡ 4) × (128 ≤ length (now seeds)) × (at + length (row-bytes 1 player (now array) (now seeds)) ≤ length (now out)) ⌝ }
+    ensures { λ r. ⌜ Wrote at (row-bytes 1 player (now (array .entry)) (now (seeds .entry))) r (now (out .entry)) (now (out .exit)) ⌝ }
+{
+    let next = put_byte(out, at, four_marks(array, 0, player));
+    let next = put_column(out, next, player, 0, array, seeds);
+    let next = put_column(out, next, player, 1, array, seeds);
+    let next = put_column(out, next, player, 2, array, seeds);
+    put_column(out, next, player, 3, array, seeds)
 }
 
 // Writes one grid row of the player's key: the marks, then the held seeds.
@@ -143,9 +178,12 @@ fn put_row(
     array: &[u8],
     seeds: &[u8],
 ) -> usize
-    requires { ⌜ (player < 8) × («mark_bytes» ≤ 100) × (32 * length (now array) ≤ length (now seeds)) × (at + length (row-bytes «mark_bytes» player (now array) (now seeds)) ≤ length (now out)) ⌝ }
+    requires { ⌜ (player < 8) × («mark_bytes» ≤ 100) × («mark_bytes» ≡ (length (now array) + 7) / 8) × (32 * length (now array) ≤ length (now seeds)) × (at + length (row-bytes «mark_bytes» player (now array) (now seeds)) ≤ length (now out)) ⌝ }
     ensures { λ r. ⌜ Wrote at (row-bytes «mark_bytes» player (now (array .entry)) (now (seeds .entry))) r (now (out .entry)) (now (out .exit)) ⌝ }
 {
+    if array.len() == 4 {
+        return put_four(out, at, player, array, seeds);
+    }
     let next = put_marks(out, at, player, mark_bytes, array);
     put_held(out, next, player, array, seeds)
 }

@@ -1,4 +1,4 @@
--- `dealing::grid_rows::mark_byte` meets its contract. Assumes nothing.
+-- `held_rows::mark_byte` meets its contract. Assumes nothing.
 use native.Mathlib.Omega.{arith}
 use denote.Ref.{now}
 use Rattle.held_rows.proofs.RowBytes.{packed-small, eight-packed, last-four}

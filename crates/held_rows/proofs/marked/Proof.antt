@@ -1,4 +1,4 @@
--- `dealing::grid_rows::marked` meets its contract. Assumes nothing.
+-- `held_rows::marked` meets its contract. Assumes nothing.
 use mathlib.Core.Path.{refl}
 use Rattle.grid.specs.Grid.{bit}
 use borrow.Author.Needs.{needs}
