@@ -1,3 +1,2 @@
 -- The laws of a grid row's bytes. Assumes nothing.
 pub mod RowBytes
-mod Spread

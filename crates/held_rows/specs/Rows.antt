@@ -1,18 +1,10 @@
 -- What the writers of a grid row write, in the terms of document 03's `body-from`. Assumes nothing: these are definitions.
 use mathlib.Core.Bool.{cond}
 use mathlib.Core.List.{List, [], _++_}
-use Prim.Native.Nat.{ℕ, _+_, _*_}
+use Prim.Native.Nat.{ℕ, _*_}
 use lib.ListN.{getD, take, drop}
 use Rattle.grid.specs.Grid.{bit}
 use Rattle.keys.specs.Keys.{packed, held-seeds}
-
--- a player's mark in a column as a digit
-unfoldable pub mark-digit : (column player : ℕ) → ℕ
-mark-digit c i = cond (bit c i) 1 0
-
--- the marks of four columns, each in a byte of its own, the first column's in the lowest
-unfoldable pub spread-marks : (first second third fourth player : ℕ) → ℕ
-spread-marks a b c d i = mark-digit a i + 256 * (mark-digit b i + 256 * (mark-digit c i + 256 * mark-digit d i))
 
 -- the seed of column j where the player marks it, and nothing where not
 unfoldable pub column-seed : (player column : ℕ) → (array seeds : List ℕ) → List ℕ

@@ -1,6 +1,5 @@
 -- `held_rows::put_row` meets its contract: four columns at once, or marks, and held seeds behind them. Assumes nothing.
 use mathlib.Core.Path.{_≡_, sym, subst}
-use mathlib.Core.List.{List}
 use Prim.Native.Nat.{ℕ, _+_, _≤_}
 use native.Mathlib.Omega.{arith}
 use lib.ListN.{length}
@@ -10,7 +9,8 @@ use Rattle.writer.specs.Written.{Wrote}
 use Rattle.writer.proofs.Laws.{wrote-then}
 use borrow.Author.Needs.{needs}
 use Rattle.held_rows.specs.Rows.{row-bytes}
-use Rattle.held_rows.proofs.RowBytes.{packed-long, row-parts}
+use Rattle.marks.proofs.PackedMarks.{packed-long}
+use Rattle.held_rows.proofs.RowBytes.{row-parts}
 use Rattle.held_rows.proofs.put_row.Statement.{statement}
 use Rattle.held_rows.proofs.put_row.Tie as tie
 

@@ -1,9 +1,9 @@
--- `held_rows::spread_marks` meets its contract. Assumes nothing.
+-- `marks::spread_marks` meets its contract. Assumes nothing.
 use native.Mathlib.Omega.{arith}
-use Rattle.held_rows.proofs.Spread.{spread-made}
+use Rattle.marks.proofs.Spread.{spread-made}
 use borrow.Author.Needs.{needs}
-use Rattle.held_rows.proofs.spread_marks.Statement.{statement}
-use Rattle.held_rows.proofs.spread_marks.Tie as tie
+use Rattle.marks.proofs.spread_marks.Statement.{statement}
+use Rattle.marks.proofs.spread_marks.Tie as tie
 
 mul-word : tie.Need-mul-word
 mul-word c = search needs

@@ -1,13 +1,13 @@
 -- The laws of four marks by one multiplication: a word's bytes shifted and masked, and the marks gathered out of their bytes. Assumes nothing.
-use mathlib.Core.Path.{_≡_, refl, sym, ap, _∙_}
+use mathlib.Core.Path.{_≡_, sym, ap, _∙_}
 use mathlib.Core.List.{List}
 use Prim.Native.Nat.{ℕ, zero, suc, _+_, _*_, _/_, _%_, _^_, _<_}
 use native.Mathlib.Omega.{arith}
 use lib.Bits.{bitAnd, and-mask, and-block}
 use lib.ListN.{getD, drop}
 use Rattle.keys.specs.Keys.{packed-from}
-use Rattle.held_rows.specs.Rows.{mark-digit, spread-marks}
-use Rattle.held_rows.proofs.RowBytes.{digit-is, packed-next}
+use Rattle.marks.specs.Marks.{mark-digit, spread-marks}
+use Rattle.marks.proofs.PackedMarks.{digit-is, packed-next}
 
 -- a byte's lowest digit and the bytes above it, after a shift by less than a byte
 shifted : (i c w : ℕ) → i < 8 → c < 256 → ((c + 256 * w) / 2 ^ i % 2 ≡ c / 2 ^ i % 2) × ((c + 256 * w) / 2 ^ i / 256 ≡ w / 2 ^ i)

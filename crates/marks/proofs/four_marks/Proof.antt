@@ -1,9 +1,9 @@
--- `held_rows::four_marks` meets its contract. Assumes nothing.
+-- `marks::four_marks` meets its contract. Assumes nothing.
 use denote.Ref.{now}
-use Rattle.held_rows.proofs.Spread.{four-packed}
+use Rattle.marks.proofs.Spread.{four-packed}
 use borrow.Author.Needs.{needs}
-use Rattle.held_rows.proofs.four_marks.Statement.{statement}
-use Rattle.held_rows.proofs.four_marks.Tie as tie
+use Rattle.marks.proofs.four_marks.Statement.{statement}
+use Rattle.marks.proofs.four_marks.Tie as tie
 
 shared-slice-read-spread-marks : tie.Need-shared-slice-read-spread-marks
 shared-slice-read-spread-marks c = search needs
