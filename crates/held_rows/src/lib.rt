@@ -71,16 +71,18 @@ fn put_held(out: &mut [u8], at: usize, player: u32, array: &[u8], seeds: &[u8]) 
     next
 }
 
-// Writes a grid row of four columns, as three players have: the same without loops.
+// Writes a grid row of four columns, as three players have: the same with its numbers known, so that the compiler writes no loop.
 fn put_four(out: &mut [u8], at: usize, player: u32, array: &[u8], seeds: &[u8]) -> usize
     requires { ⌜ (player < 8) × (length (now array) ≡ 4) × (128 ≤ length (now seeds)) × (at + length (row-bytes 1 player (now array) (now seeds)) ≤ length (now out)) ⌝ }
     ensures { λ r. ⌜ Wrote at (row-bytes 1 player (now (array .entry)) (now (seeds .entry))) r (now (out .entry)) (now (out .exit)) ⌝ }
 {
-    let next = put_byte(out, at, four_marks(array, 0, player));
-    let next = put_column(out, next, player, 0, array, seeds);
-    let next = put_column(out, next, player, 1, array, seeds);
-    let next = put_column(out, next, player, 2, array, seeds);
-    put_column(out, next, player, 3, array, seeds)
+    let mut next = put_byte(out, at, four_marks(array, 0, player));
+    let mut column: usize = 0;
+    while column < 4 {
+        next = put_column(out, next, player, column, array, seeds);
+        column += 1;
+    }
+    next
 }
 
 // Writes one grid row of the player's key: the marks, then the held seeds.
