@@ -18,7 +18,7 @@ use Rattle.keys.proofs.Lists.{glue-words}
 use Rattle.keys.proofs.Numbers.{header-long}
 use Rattle.writer.specs.Written.{Wrote, written}
 use Rattle.writer.proofs.Laws.{wrote-then, wrote-more, wrote-length, part-kept, part-written, written-front}
-use Rattle.held_rows.proofs.RowBytes.{packed-long}
+use Rattle.marks.proofs.PackedMarks.{packed-long}
 use Rattle.last_word.specs.LastWord.{rule, dealt-word}
 use Rattle.last_word.proofs.LastWord.{dealt-word-long}
 use Rattle.dealing.specs.Dealt.{key-front, dealt-keys, in-front}

@@ -1,157 +1,21 @@
--- The laws of a grid row's bytes: marks packed digit by digit, packed bytes one behind another, held seeds column by column. Assumes nothing.
+-- The laws of a grid row's bytes: held seeds column by column, and grid rows one behind another. Assumes nothing.
 use mathlib.Core.Path.{_≡_, refl, sym, ap, _∙_}
-use mathlib.Core.Bool.{Bool, true, false, cond}
+use mathlib.Core.Bool.{cond}
 use mathlib.Core.List.{List, [], _∷_, _++_, append-assoc, append-nil}
-use Prim.Native.Nat.{ℕ, zero, suc, _+_, _*_, _-_, _/_, _%_, _^_, _≤_, _<_}
+use Prim.Native.Nat.{ℕ, zero, suc, _+_, _*_, _-_, _/_, _≤_, _<_}
 use native.Mathlib.Omega.{arith}
-use native.Mathlib.Nat.{lt-of-lt-of-le, mul-le-mul-right}
-use lib.Pow.{pow-mono}
+use native.Mathlib.Nat.{mul-le-mul-right}
 use native.Mathlib.Numerals.{add-one}
-use lib.ListN.{length, getD, take, drop, length-append, drop-of-length-le, List·getD-eq-default}
-use lib.Dec.{leb, eqb}
-use lib.Seq.{drop-cons, drop-drop}
-use borrow.Author.Tests.{leb-true, leb-false}
+use lib.ListN.{length, getD, take, drop, length-append}
+use lib.Seq.{drop-drop, take-all}
 use Rattle.grid.specs.Grid.{Board, columns, grid-rows, bit}
 use Rattle.grid.proofs.Facts.{Board-in, columns-most}
 use Rattle.keys.specs.Keys.{packed-from, packed, held-seeds, mark-bytes, body-from}
-use Rattle.keys.proofs.Marks.{bit-nothing}
 use Rattle.writer.specs.Written.{Wrote}
-use Rattle.writer.proofs.Laws.{wrote-more}
-use Rattle.held_rows.specs.Rows.{mark-digit, row-bytes}
+use Rattle.writer.proofs.Laws.{wrote-more, wrote-nothing, wrote-length}
+use Rattle.marks.proofs.PackedMarks.{packed-long, last-four}
+use Rattle.held_rows.specs.Rows.{column-seed, row-bytes}
 use Rattle.writer.proofs.Cuts.{part-long, part-whole, rest-is, rest-long}
-
--- MARKS PACKED
-
--- a mark one bit further up counts twice
-packed-double : (n k i : ℕ) (cs : List ℕ) → packed-from n (suc k) i cs ≡ 2 * packed-from n k i cs
-unfolding packed-from
-packed-double zero k i cs = refl
-packed-double (suc n) k i [] = refl
-packed-double (suc n) k i (c ∷ cs) =
-    twice (bit c i) (2 ^ suc k) (2 ^ k) (packed-from n (suc k) i cs) (packed-from n (suc (suc k)) i cs) (omega arith) (packed-double n (suc k) i cs)
-  where
-    twice : (t : Bool) (high low few more : ℕ) → high ≡ 2 * low → more ≡ 2 * few → cond t high 0 + more ≡ 2 * (cond t low 0 + few)
-    twice true high low few more h m = omega arith
-    twice false high low few more h m = omega arith
-
--- n marks make a number of n bits
-pub packed-lt : (n i : ℕ) (cs : List ℕ) → packed-from n 0 i cs < 2 ^ n
-unfolding packed-from
-packed-lt zero i cs = omega arith
-packed-lt (suc n) i [] = omega (arith, packed-lt n i [])
-packed-lt (suc n) i (c ∷ cs) = below (bit c i) (packed-from n 0 i cs) (packed-from n 1 i cs) (2 ^ n) (2 ^ suc n) (packed-double n 0 i cs) (packed-lt n i cs) (omega arith)
-  where
-    below : (t : Bool) (few more most twice : ℕ) → more ≡ 2 * few → few < most → twice ≡ 2 * most → cond t 1 0 + more < twice
-    below true few more most twice m h d = omega arith
-    below false few more most twice m h d = omega arith
-
-pub packed-small : (n i : ℕ) (cs : List ℕ) {byte : ℕ} → byte ≡ packed-from n 0 i cs → byte < 2 ^ n
-packed-small n i cs is = rw is (packed-lt n i cs)
-
--- fewer than eight marks make less than 128
-pub packed-room : (place i : ℕ) (cs : List ℕ) → 0 < place → packed-from (8 - place) 0 i cs < 128
-packed-room place i cs h = lt-of-lt-of-le (packed-lt (8 - place) i cs) (pow-mono {i = 8 - place} {j = 7} (omega arith))
-
--- the marks from a place on are the mark there, and twice the marks behind it
-pub packed-next : (n i from : ℕ) (cs : List ℕ) →
-    packed-from n 0 i (drop (suc from) cs) * 2 + mark-digit (getD cs from 0) i ≡ packed-from (suc n) 0 i (drop from cs)
-unfolding packed-from mark-digit
-packed-next n i from cs = go (leb (length cs) from) refl
-  where
-    none : (m : ℕ) → packed-from m 0 i [] ≡ 0
-    none zero = refl
-    none (suc m) = refl
-
-    digit : (t : Bool) (few more : ℕ) → more ≡ 2 * few → few * 2 + cond t 1 0 ≡ cond t 1 0 + more
-    digit true few more e = omega arith
-    digit false few more e = omega arith
-
-    go : (t : Bool) → leb (length cs) from ≡ t →
-        packed-from n 0 i (drop (suc from) cs) * 2 + cond (bit (getD cs from 0) i) 1 0 ≡ packed-from (suc n) 0 i (drop from cs)
-    go true e =
-        let past = leb-true (length cs) from e in
-        rw (drop-of-length-le cs past, drop-of-length-le cs {i = suc from} (omega arith), List·getD-eq-default cs 0 past, bit-nothing i, none n)
-    go false e =
-        rw (drop-cons cs from 0 (leb-false (length cs) from e))
-        (digit (bit (getD cs from 0) i) (packed-from n 0 i (drop (suc from) cs)) (packed-from n 1 i (drop (suc from) cs)) (packed-double n 0 i (drop (suc from) cs)))
-
--- the digit that the code reads
-digit-is : (v i : ℕ) → v / 2 ^ i % 2 ≡ mark-digit v i
-unfolding mark-digit bit
-digit-is v i = digit (v / 2 ^ i % 2) (omega arith)
-  where
-    digit : (x : ℕ) → x < 2 → x ≡ cond (eqb x 1) 1 0
-    digit zero h = refl
-    digit (suc zero) h = refl
-    digit (suc (suc x)) h = omega arith
-
--- MARKS BY TWO, FOUR AND EIGHT
-
-packed-none : (n k i : ℕ) → packed-from n k i [] ≡ 0
-unfolding packed-from
-packed-none zero k i = refl
-packed-none (suc n) k i = refl
-
-packed-add : (m n k i : ℕ) (cs : List ℕ) → packed-from (m + n) k i cs ≡ packed-from m k i cs + packed-from n (m + k) i (drop m cs)
-unfolding packed-from
-packed-add zero n k i cs =
-    let all : zero + n ≡ n = omega arith in
-    let here : zero + k ≡ k = omega arith in
-    rw (all, here) (omega arith)
-packed-add (suc m) n k i [] =
-    let more : suc m + n ≡ suc (m + n) = omega arith in
-    rw (more, packed-none n (suc m + k) i)
-packed-add (suc m) n k i (c ∷ cs) =
-    let more : suc m + n ≡ suc (m + n) = omega arith in
-    let place : suc m + k ≡ m + suc k = omega arith in
-    rw (more, place, packed-add m n (suc k) i cs) (omega arith)
-
-up-two : (n i : ℕ) (cs : List ℕ) → packed-from n 2 i cs ≡ 4 * packed-from n 0 i cs
-up-two n i cs = omega (arith, packed-double n 1 i cs, packed-double n 0 i cs)
-
-up-four : (n i : ℕ) (cs : List ℕ) → packed-from n 4 i cs ≡ 16 * packed-from n 0 i cs
-up-four n i cs = omega (arith, packed-double n 3 i cs, packed-double n 2 i cs, up-two n i cs)
-
-module _ (i from : ℕ) (cs : List ℕ) where
-  pub two-packed : getD cs (from + 1) 0 / 2 ^ i % 2 * 2 + getD cs from 0 / 2 ^ i % 2 ≡ packed-from 2 0 i (drop from cs)
-  unfolding packed-from
-  two-packed = rw (add-one from, digit-is (getD cs (suc from) 0) i, digit-is (getD cs from 0) i) (omega (arith, packed-next 0 i (suc from) cs, packed-next 1 i from cs))
-
-  pub four-packed : {low high : ℕ} → low ≡ packed-from 2 0 i (drop from cs) → high ≡ packed-from 2 0 i (drop (from + 2) cs) → low + 4 * high ≡ packed-from 4 0 i (drop from cs)
-  four-packed p q = omega (arith, p, q ∙ ap (λ (l : List ℕ). packed-from 2 0 i l) (sym (drop-drop 2 from cs)), packed-add 2 2 0 i (drop from cs), up-two 2 i (drop 2 (drop from cs)))
-
-  pub eight-packed : {low high : ℕ} → low ≡ packed-from 4 0 i (drop from cs) → high ≡ packed-from 4 0 i (drop (from + 4) cs) → low + 16 * high ≡ packed-from 8 0 i (drop from cs)
-  eight-packed p q = omega (arith, p, q ∙ ap (λ (l : List ℕ). packed-from 4 0 i l) (sym (drop-drop 4 from cs)), packed-add 4 4 0 i (drop from cs), up-four 4 i (drop 4 (drop from cs)))
-
-  -- four are left, and no more
-  pub last-four : {byte : ℕ} → byte ≡ packed-from 4 0 i (drop from cs) → from + 4 ≡ length cs → byte ≡ packed-from 8 0 i (drop from cs)
-  last-four p e =
-      let none : packed-from 4 4 i (drop 4 (drop from cs)) ≡ 0 = rw (drop-drop 4 from cs, drop-of-length-le cs {i = from + 4} (omega arith)) (packed-none 4 4 i) in
-      omega (arith, p, packed-add 4 4 0 i (drop from cs), none)
-
--- PACKED BYTES, one more
-pub packed-snoc : (k i : ℕ) (cs : List ℕ) → packed (suc k) i cs ≡ packed k i cs ++ (packed-from 8 0 i (drop (8 * k) cs) ∷ [])
-unfolding packed
-packed-snoc zero i cs = refl
-packed-snoc (suc k) i cs =
-    let places : 8 + 8 * k ≡ 8 * suc k = omega arith in
-    ap (λ (l : List ℕ). packed-from 8 0 i cs ∷ l)
-    (packed-snoc k i (drop 8 cs)
-    ∙ ap (λ (l : List ℕ). packed k i (drop 8 cs) ++ (packed-from 8 0 i l ∷ [])) (drop-drop (8 * k) 8 cs ∙ ap (λ (m : ℕ). drop m cs) places))
-
-pub packed-long : (k i : ℕ) (cs : List ℕ) → length (packed k i cs) ≡ k
-unfolding packed
-packed-long zero i cs = refl
-packed-long (suc k) i cs = ap suc (packed-long k i (drop 8 cs))
-
--- writing one more
-pub marks-turn : (at count byte player mark : ℕ) {next after : ℕ} (array : List ℕ) {old between now : List ℕ} → byte < count → at + count ≤ length old →
-    mark ≡ packed-from 8 0 player (drop (8 * byte) array) → Wrote at (packed byte player array) next old between → Wrote next (mark ∷ []) after between now →
-    Wrote at (packed (byte + 1) player array) after old now
-marks-turn at count byte player mark array within room is p q =
-    let grown : packed (byte + 1) player array ≡ packed byte player array ++ (mark ∷ []) = rw (add-one, is) (packed-snoc byte player array) in
-    let long = packed-long (byte + 1) player array in
-    wrote-more (packed byte player array) (mark ∷ []) (packed (byte + 1) player array) grown (omega arith) p q
 
 -- HELD SEEDS, of the columns before a place and from it on
 pub held-split : (j i : ℕ) (cs ss : List ℕ) → held-seeds i cs ss ≡ held-seeds i (take j cs) ss ++ held-seeds i (drop j cs) (drop (32 * j) ss)
@@ -164,9 +28,8 @@ held-split (suc j) i (c ∷ cs) ss =
     (sym (append-assoc (cond (bit c i) (take 32 ss) []) (held-seeds i (take j cs) (drop 32 ss)) (held-seeds i (drop j cs) (drop (32 * suc j) ss))))
 
 -- one more
-pub held-snoc : (j i : ℕ) (cs ss : List ℕ) → j < length cs →
-    held-seeds i (take (suc j) cs) ss ≡ held-seeds i (take j cs) ss ++ cond (bit (getD cs j 0) i) (take 32 (drop (32 * j) ss)) []
-unfolding held-seeds
+pub held-snoc : (j i : ℕ) (cs ss : List ℕ) → j < length cs → held-seeds i (take (suc j) cs) ss ≡ held-seeds i (take j cs) ss ++ column-seed i j cs ss
+unfolding held-seeds column-seed
 held-snoc zero i [] ss h = let none : ⊥ = omega arith in absurd none
 held-snoc zero i (c ∷ cs) ss h = append-nil (cond (bit c i) (take 32 ss) [])
 held-snoc (suc j) i [] ss h = let none : ⊥ = omega arith in absurd none
@@ -176,29 +39,39 @@ held-snoc (suc j) i (c ∷ cs) ss h =
     (sym (append-assoc (cond (bit c i) (take 32 ss) []) (held-seeds i (take j cs) (drop 32 ss)) (cond (bit (getD cs j 0) i) (take 32 (drop (32 * suc j) ss)) [])))
 
 -- so the seeds of some columns and of the next are no longer than those of all
-pub held-within : (j i : ℕ) (cs ss : List ℕ) → j < length cs →
-    length (held-seeds i (take j cs) ss) + length (cond (bit (getD cs j 0) i) (take 32 (drop (32 * j) ss)) []) ≤ length (held-seeds i cs ss)
+held-within : (j i : ℕ) (cs ss : List ℕ) → j < length cs →
+    length (held-seeds i (take j cs) ss) + length (column-seed i j cs ss) ≤ length (held-seeds i cs ss)
 held-within j i cs ss h =
     let before = held-seeds i (take j cs) ss in
-    let next = cond (bit (getD cs j 0) i) (take 32 (drop (32 * j) ss)) [] in
+    let next = column-seed i j cs ss in
     let behind = held-seeds i (drop (suc j) cs) (drop (32 * suc j) ss) in
     let whole : length (held-seeds i cs ss) ≡ length (before ++ next) + length behind =
     ap length (held-split (suc j) i cs ss ∙ ap (λ (l : List ℕ). l ++ behind) (held-snoc j i cs ss h)) ∙ length-append (before ++ next) behind in
     omega (arith, length-append before next)
 
--- writing one more
-pub held-turn : (at column player : ℕ) (held : Bool) {next after : ℕ} (array seeds : List ℕ) {old between now : List ℕ} → column < length array →
-    at + length (held-seeds player array seeds) ≤ length old → held ≡ bit (getD array column 0) player →
-    Wrote at (held-seeds player (take column array) seeds) next old between →
-    Wrote next (cond held (take 32 (drop (32 * column) seeds)) []) after between now →
-    Wrote at (held-seeds player (take (column + 1) array) seeds) after old now
-held-turn at column player held array seeds {old} within room is p q =
-    let before = held-seeds player (take column array) seeds in
-    let next = cond held (take 32 (drop (32 * column) seeds)) [] in
-    let grown : held-seeds player (take (column + 1) array) seeds ≡ before ++ next = rw (add-one, is) (held-snoc column player array seeds within) in
-    let long : length (held-seeds player (take (column + 1) array) seeds) ≡ length before + length next = ap length grown ∙ length-append before next in
-    let fits : length before + length next ≤ length (held-seeds player array seeds) = rw is (held-within column player array seeds within) in
-    wrote-more before next (held-seeds player (take (column + 1) array) seeds) grown (omega arith) p q
+-- WRITING THEM where there is room for all
+module _ (at player : ℕ) (array seeds old : List ℕ) (room : at + length (held-seeds player array seeds) ≤ length old) where
+  pub held-none : Wrote at (held-seeds player (take 0 array) seeds) at old old
+  unfolding held-seeds
+  held-none = wrote-nothing at old
+
+  module _ (column : ℕ) {next : ℕ} {between : List ℕ} (within : column < length array) (so-far : Wrote at (held-seeds player (take column array) seeds) next old between) where
+    -- there is room for the next
+    pub held-room : next + length (column-seed player column array seeds) ≤ length between
+    held-room =
+        let fits = held-within column player array seeds within in
+        let same = wrote-length (held-seeds player (take column array) seeds) (omega arith) so-far in
+        omega (arith, so-far .next-is)
+
+    -- and with it one more is written
+    pub held-turn : {after : ℕ} {now : List ℕ} → Wrote next (column-seed player column array seeds) after between now →
+        Wrote at (held-seeds player (take (column + 1) array) seeds) after old now
+    held-turn p =
+        let before = held-seeds player (take column array) seeds in
+        let seed = column-seed player column array seeds in
+        let grown : held-seeds player (take (column + 1) array) seeds ≡ before ++ seed = rw add-one (held-snoc column player array seeds within) in
+        let long : length (held-seeds player (take (column + 1) array) seeds) ≡ length before + length seed = ap length grown ∙ length-append before seed in
+        wrote-more before seed (held-seeds player (take (column + 1) array) seeds) grown (omega (arith, held-within column player array seeds within)) so-far p
 
 -- GRID ROWS
 
@@ -206,6 +79,16 @@ held-turn at column player held array seeds {old} within room is p q =
 pub row-parts : (m i : ℕ) (cs ss : List ℕ) → length (row-bytes m i cs ss) ≡ m + length (held-seeds i cs ss)
 unfolding row-bytes
 row-parts m i cs ss = length-append (packed m i cs) (held-seeds i cs ss) ∙ ap (λ (n : ℕ). n + length (held-seeds i cs ss)) (packed-long m i cs)
+
+-- a grid row of four columns: a byte of marks, and four columns' seeds
+pub four-row : (at player : ℕ) {byte next after : ℕ} (array seeds : List ℕ) {old between now : List ℕ} → length array ≡ 4 →
+    at + length (row-bytes 1 player array seeds) ≤ length old → byte ≡ packed-from 4 0 player (drop 0 array) → Wrote at (byte ∷ []) next old between →
+    Wrote next (held-seeds player (take 4 array) seeds) after between now → Wrote at (row-bytes 1 player array seeds) after old now
+unfolding row-bytes packed
+four-row at player {byte} array seeds four room is p q =
+    let all : take 4 array ≡ array = take-all 4 array (omega arith) in
+    let grown : row-bytes 1 player array seeds ≡ (byte ∷ []) ++ held-seeds player (take 4 array) seeds = rw (all, last-four player 0 array is (omega arith)) in
+    wrote-more (byte ∷ []) (held-seeds player (take 4 array) seeds) (row-bytes 1 player array seeds) grown room p q
 
 -- grid row g of a player's key
 unfoldable pub row-at : (g : ℕ) → Board → (player : ℕ) → (arrays seeds : List ℕ) → List ℕ
@@ -268,6 +151,12 @@ pub row-seeds : (from J : ℕ) (arrays seeds : List ℕ) → from + J ≤ length
     32 * length (take (from + J - from) (drop from arrays)) ≤ length (take (length seeds - 32 * from) (drop (32 * from) seeds))
 row-seeds from J arrays seeds h long =
     rw (part-whole from J arrays h) (rest-long (32 * from) (32 * J) seeds (omega arith))
+
+-- and its marks are an eighth of its columns, rounded up
+pub row-marks : (from J m : ℕ) (b : Board) (arrays : List ℕ) → J ≡ columns b → m ≡ mark-bytes b → from + J ≤ length arrays →
+    m ≡ (length (take (from + J - from) (drop from arrays)) + 7) / 8
+unfolding mark-bytes
+row-marks from J m b arrays e f h = rw (part-whole from J arrays h, e) f
 
 -- a grid row has at most five bytes of marks
 pub mark-bytes-most : (b : Board) → Board-in b → mark-bytes b ≤ 100

@@ -2,99 +2,21 @@
 ghost use mathlib.Core.Path.{_≡_};
 ghost use mathlib.Core.Bool.{cond};
 ghost use mathlib.Core.List.{[]};
-ghost use Prim.Native.Nat.{_+_, _*_, _≤_, _<_};
-ghost use lib.ListN.{length, getD, drop};
-ghost use Rattle.grid.specs.Grid.{bit, board-refusal, columns, grid-rows};
+ghost use Prim.Native.Nat.{_+_, _*_, _/_, _≤_, _<_};
+ghost use lib.ListN.{length};
+ghost use Rattle.grid.specs.Grid.{board-refusal, columns, grid-rows};
 ghost use Rattle.grid.specs.Code.{board-of};
-ghost use Rattle.keys.specs.Keys.{packed-from, packed, held-seeds, body-from};
-ghost use Rattle.held_rows.specs.Rows.{mark-digit, row-bytes};
+ghost use Rattle.keys.specs.Keys.{held-seeds, body-from};
+ghost use Rattle.held_rows.specs.Rows.{column-seed, row-bytes};
 ghost use Rattle.writer.specs.Written.{Wrote};
 use grid::board::Board;
 use key_lengths::SEED_BYTES;
 use key_lengths::mark_bytes;
+use marks::four_marks;
+use marks::marked;
+use marks::put_marks;
 use writer::put;
 use writer::put_byte;
-
-// Whether a column has a player's mark.
-fn marked(column: u8, player: u32) -> bool
-    requires { ⌜ player < 8 ⌝ }
-    ensures { λ r. ⌜ r ≡ bit column player ⌝ }
-{
-    (column >> player) % 2 == 1
-}
-
-// A player's mark in the column at a place as a digit, and 0 past the array's end.
-fn mark_digit(array: &[u8], at: usize, player: u32) -> u8
-    requires { ⌜ player < 8 ⌝ }
-    ensures { λ r. ⌜ r ≡ mark-digit (getD (now (array .entry)) at 0) player ⌝ }
-{
-    if array.len() <= at {
-        return 0;
-    }
-    if marked(array[at], player) {
-        return 1;
-    }
-    0
-}
-
-// The player's marks in the columns from `from` on, eight at most, as one byte: the k-th of them is bit k.
-fn few_marks(array: &[u8], from: usize, player: u32) -> u8
-    requires { ⌜ (player < 8) × (from ≤ 1000) ⌝ }
-    ensures { λ r. ⌜ r ≡ packed-from 8 0 player (drop from (now (array .entry))) ⌝ }
-{
-    let mut byte: u8 = 0;
-    let mut place: usize = 8;
-    while 0 < place {
-        place -= 1;
-        byte = byte * 2 + mark_digit(array, from + place, player);
-    }
-    byte
-}
-
-// The player's marks in two columns, and in four, that are there: the same without asking at each.
-fn two_marks(array: &[u8], from: usize, player: u32) -> u8
-    requires { ⌜ (player < 8) × (from + 2 ≤ length (now array)) ⌝ }
-    ensures { λ r. ⌜ r ≡ packed-from 2 0 player (drop from (now (array .entry))) ⌝ }
-{
-    let first = (array[from] >> player) % 2;
-    let second = (array[from + 1] >> player) % 2;
-    second * 2 + first
-}
-
-fn four_marks(array: &[u8], from: usize, player: u32) -> u8
-    requires { ⌜ (player < 8) × (from + 4 ≤ length (now array)) ⌝ }
-    ensures { λ r. ⌜ r ≡ packed-from 4 0 player (drop from (now (array .entry))) ⌝ }
-{
-    two_marks(array, from, player) + 4 * two_marks(array, from + 2, player)
-}
-
-// The player's marks in eight columns from `from` on as one byte.
-fn mark_byte(array: &[u8], from: usize, player: u32) -> u8
-    requires { ⌜ (player < 8) × (from ≤ 1000) ⌝ }
-    ensures { λ r. ⌜ r ≡ packed-from 8 0 player (drop from (now (array .entry))) ⌝ }
-{
-    if from + 8 <= array.len() {
-        return four_marks(array, from, player) + 16 * four_marks(array, from + 4, player);
-    }
-    if from + 4 == array.len() {
-        return four_marks(array, from, player);
-    }
-    few_marks(array, from, player)
-}
-
-// Writes the player's marks in an array, packed into `count` bytes.
-fn put_marks(out: &mut [u8], at: usize, player: u32, count: usize, array: &[u8]) -> usize
-    requires { ⌜ (player < 8) × (count ≤ 100) × (at + count ≤ length (now out)) ⌝ }
-    ensures { λ r. ⌜ Wrote at (packed count player (now (array .entry))) r (now (out .entry)) (now (out .exit)) ⌝ }
-{
-    let mut next = at;
-    let mut byte: usize = 0;
-    while byte < count {
-        next = put_byte(out, next, mark_byte(array, 8 * byte, player));
-        byte += 1;
-    }
-    next
-}
 
 // A seed's bytes by themselves: read before any is written, so that they are moved at once.
 fn seed_bytes(seed: &[u8]) -> [u8; 32]
@@ -118,6 +40,23 @@ fn put_if(out: &mut [u8], at: usize, held: bool, seed: &[u8]) -> usize
     at
 }
 
+// Writes the seed of a column where the player marks it.
+fn put_column(
+    out: &mut [u8],
+    at: usize,
+    player: u32,
+    column: usize,
+    array: &[u8],
+    seeds: &[u8],
+) -> usize
+    requires { ⌜ (player < 8) × (column < length (now array)) × (32 * length (now array) ≤ length (now seeds)) × (at + length (column-seed player column (now array) (now seeds)) ≤ length (now out)) ⌝ }
+    ensures { λ r. ⌜ Wrote at (column-seed player column (now (array .entry)) (now (seeds .entry))) r (now (out .entry)) (now (out .exit)) ⌝ }
+{
+    let from = SEED_BYTES * column;
+    let end = from + SEED_BYTES;
+    put_if(out, at, marked(array[column], player), &seeds[from..end])
+}
+
 // Writes the seeds of the columns that the player marks, in column order.
 fn put_held(out: &mut [u8], at: usize, player: u32, array: &[u8], seeds: &[u8]) -> usize
     requires { ⌜ (player < 8) × (32 * length (now array) ≤ length (now seeds)) × (at + length (held-seeds player (now array) (now seeds)) ≤ length (now out)) ⌝ }
@@ -126,9 +65,21 @@ fn put_held(out: &mut [u8], at: usize, player: u32, array: &[u8], seeds: &[u8]) 
     let mut next = at;
     let mut column: usize = 0;
     while column < array.len() {
-        let from = SEED_BYTES * column;
-        let end = from + SEED_BYTES;
-        next = put_if(out, next, marked(array[column], player), &seeds[from..end]);
+        next = put_column(out, next, player, column, array, seeds);
+        column += 1;
+    }
+    next
+}
+
+// Writes a grid row of four columns, as three players have: the same with its numbers known, so that the compiler writes no loop.
+fn put_four(out: &mut [u8], at: usize, player: u32, array: &[u8], seeds: &[u8]) -> usize
+    requires { ⌜ (player < 8) × (length (now array) ≡ 4) × (128 ≤ length (now seeds)) × (at + length (row-bytes 1 player (now array) (now seeds)) ≤ length (now out)) ⌝ }
+    ensures { λ r. ⌜ Wrote at (row-bytes 1 player (now (array .entry)) (now (seeds .entry))) r (now (out .entry)) (now (out .exit)) ⌝ }
+{
+    let mut next = put_byte(out, at, four_marks(array, 0, player));
+    let mut column: usize = 0;
+    while column < 4 {
+        next = put_column(out, next, player, column, array, seeds);
         column += 1;
     }
     next
@@ -143,9 +94,12 @@ fn put_row(
     array: &[u8],
     seeds: &[u8],
 ) -> usize
-    requires { ⌜ (player < 8) × («mark_bytes» ≤ 100) × (32 * length (now array) ≤ length (now seeds)) × (at + length (row-bytes «mark_bytes» player (now array) (now seeds)) ≤ length (now out)) ⌝ }
+    requires { ⌜ (player < 8) × («mark_bytes» ≤ 100) × («mark_bytes» ≡ (length (now array) + 7) / 8) × (32 * length (now array) ≤ length (now seeds)) × (at + length (row-bytes «mark_bytes» player (now array) (now seeds)) ≤ length (now out)) ⌝ }
     ensures { λ r. ⌜ Wrote at (row-bytes «mark_bytes» player (now (array .entry)) (now (seeds .entry))) r (now (out .entry)) (now (out .exit)) ⌝ }
 {
+    if array.len() == 4 {
+        return put_four(out, at, player, array, seeds);
+    }
     let next = put_marks(out, at, player, mark_bytes, array);
     put_held(out, next, player, array, seeds)
 }

@@ -1,4 +1,4 @@
--- `dealing::grid_rows::put_rows` meets its contract. The loop's invariant: the grid rows before this one are written. Assumes nothing.
+-- `held_rows::put_rows` meets its contract. The loop's invariant: the grid rows before this one are written. Assumes nothing.
 use mathlib.Core.Path.{_≡_, refl, _∙_, subst}
 use Prim.Native.Nat.{ℕ, _+_, _*_, _-_, _≤_, _<_}
 use native.Mathlib.Omega.{arith}
@@ -11,7 +11,7 @@ use Rattle.keys.specs.Keys.{body-from, mark-bytes}
 use Rattle.writer.specs.Written.{Wrote}
 use Rattle.writer.proofs.Laws.{wrote-nothing}
 use borrow.Author.Needs.{needs}
-use Rattle.held_rows.proofs.RowBytes.{row-here, row-room, row-seeds, mark-bytes-most, body-within, rows-turn}
+use Rattle.held_rows.proofs.RowBytes.{row-here, row-room, row-seeds, row-marks, mark-bytes-most, body-within, rows-turn}
 use Rattle.held_rows.proofs.put_rows.Statement.{statement}
 use Rattle.held_rows.proofs.put_rows.Tie as tie
 use Rattle.held_rows.proofs.put_rows.Reads as reads
@@ -91,6 +91,7 @@ put-row-requires c κs =
     let within : l .grid-row < grid-rows b = omega (arith, c .before .before .before .before .before .before .grid-rows .ensures) in (
       omega arith,
       omega (arith, m .ensures, mark-bytes-most b (board-in b (s .pre .0))),
+      row-marks (l .grid-row * J .result) (J .result) (m .result) b (now (a .arrays)) (J .ensures) (m .ensures) (room (c .before .before .before .before)),
       row-seeds (l .grid-row * J .result) (J .result) (now (a .arrays)) (now (a .seeds)) (room (c .before .before .before .before)) (all-seeds s),
       rw (row-here (l .grid-row) (J .result) (m .result) (a .player) b (now (a .arrays)) (now (a .seeds)) (J .ensures) (m .ensures))
           (omega (arith, l .inv .2 .next-is, l .inv .1, s .pre .4, body-within (l .grid-row) (grid-rows b) b (a .player) (now (a .arrays)) (now (a .seeds)) within)),

@@ -1,4 +1,4 @@
--- `dealing::last_word::put_last_word` meets its contract: the last word is made in its place. Assumes nothing.
+-- `last_word::put_last_word` meets its contract: the last word is made in its place. Assumes nothing.
 use mathlib.Core.Path.{_≡_, sym}
 use mathlib.Core.List.{List, append-assoc}
 use Prim.Native.Nat.{ℕ, _+_, _-_}

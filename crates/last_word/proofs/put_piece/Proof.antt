@@ -1,4 +1,4 @@
--- `dealing::last_word::put_piece` meets its contract. Assumes nothing.
+-- `last_word::put_piece` meets its contract. Assumes nothing.
 use mathlib.Core.Path.{ap, _∙_}
 use mathlib.Core.List.{List}
 use Prim.Native.Nat.{ℕ}

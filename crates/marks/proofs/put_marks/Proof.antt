@@ -1,4 +1,4 @@
--- `dealing::grid_rows::put_marks` meets its contract. The loop's invariant: the first bytes of marks are written. Assumes nothing.
+-- `marks::put_marks` meets its contract. The loop's invariant: the first bytes of marks are written. Assumes nothing.
 use mathlib.Core.Path.{_≡_, refl, _∙_, subst}
 use Prim.Native.Nat.{ℕ, _-_, _≤_}
 use native.Mathlib.Omega.{arith}
@@ -7,12 +7,12 @@ use denote.Ref.{now}
 use Rattle.keys.specs.Keys.{packed}
 use Rattle.writer.specs.Written.{Wrote}
 use Rattle.writer.proofs.Laws.{wrote-nothing}
-use Rattle.held_rows.proofs.RowBytes.{packed-long, marks-turn}
-use Rattle.held_rows.proofs.put_marks.Statement.{statement}
-use Rattle.held_rows.proofs.put_marks.Tie as tie
-use Rattle.held_rows.proofs.put_marks.Reads as reads
-use Rattle.held_rows.proofs.put_marks.Lts as lts
-use Rattle.held_rows.proofs.mark_byte.Reads as mark-byte-reads
+use Rattle.marks.proofs.PackedMarks.{packed-long, marks-turn}
+use Rattle.marks.proofs.put_marks.Statement.{statement}
+use Rattle.marks.proofs.put_marks.Tie as tie
+use Rattle.marks.proofs.put_marks.Reads as reads
+use Rattle.marks.proofs.put_marks.Lts as lts
+use Rattle.marks.proofs.mark_byte.Reads as mark-byte-reads
 use Rattle.writer.proofs.put_byte.Reads as put-byte-reads
 
 abbrev Inv-loop : tie.InvT-loop

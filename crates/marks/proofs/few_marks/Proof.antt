@@ -1,4 +1,4 @@
--- `dealing::grid_rows::few_marks` meets its contract. The loop goes down from the last mark; its invariant: the byte packs the marks from the place on.
+-- `marks::few_marks` meets its contract. The loop goes down from the last mark; its invariant: the byte packs the marks from the place on.
 -- Assumes nothing.
 use mathlib.Core.Path.{_≡_, refl, _∙_}
 use mathlib.Core.Bool.{Bool, true, false, cond}
@@ -10,13 +10,13 @@ use Rattle.grid.specs.Grid.{bit}
 use lib.ListN.{drop, getD}
 use denote.Ref.{now}
 use Rattle.keys.specs.Keys.{packed-from}
-use Rattle.held_rows.specs.Rows.{mark-digit}
-use Rattle.held_rows.proofs.RowBytes.{packed-room, packed-next}
-use Rattle.held_rows.proofs.few_marks.Statement.{statement}
-use Rattle.held_rows.proofs.few_marks.Tie as tie
-use Rattle.held_rows.proofs.few_marks.Reads as reads
-use Rattle.held_rows.proofs.few_marks.Lts as lts
-use Rattle.held_rows.proofs.mark_digit.Reads as mark-digit-reads
+use Rattle.marks.specs.Marks.{mark-digit}
+use Rattle.marks.proofs.PackedMarks.{packed-room, packed-next}
+use Rattle.marks.proofs.few_marks.Statement.{statement}
+use Rattle.marks.proofs.few_marks.Tie as tie
+use Rattle.marks.proofs.few_marks.Reads as reads
+use Rattle.marks.proofs.few_marks.Lts as lts
+use Rattle.marks.proofs.mark_digit.Reads as mark-digit-reads
 
 -- a digit is 0 or 1
 digit-small : {digit : ℕ} (column player : ℕ) → digit ≡ mark-digit column player → digit ≤ 1

@@ -1,17 +1,17 @@
--- `dealing::grid_rows::mark_digit` meets its contract. Assumes nothing.
+-- `marks::mark_digit` meets its contract. Assumes nothing.
 use mathlib.Core.Path.{sym, ap, _∙_}
 use Prim.Native.Nat.{ℕ}
 use native.Mathlib.Omega.{arith}
 use lib.ListN.{List·getD-eq-default}
 use denote.Ref.{now}
 use Rattle.keys.proofs.Marks.{bit-nothing}
-use Rattle.held_rows.specs.Rows.{mark-digit}
+use Rattle.marks.specs.Marks.{mark-digit}
 use borrow.Author.Needs.{needs}
-use Rattle.held_rows.proofs.mark_digit.Statement.{statement}
-use Rattle.held_rows.proofs.mark_digit.Tie as tie
-use Rattle.held_rows.proofs.mark_digit.Reads as reads
-use Rattle.held_rows.proofs.mark_digit.Lts as lts
-use Rattle.held_rows.proofs.marked.Reads as marked-reads
+use Rattle.marks.proofs.mark_digit.Statement.{statement}
+use Rattle.marks.proofs.mark_digit.Tie as tie
+use Rattle.marks.proofs.mark_digit.Reads as reads
+use Rattle.marks.proofs.mark_digit.Lts as lts
+use Rattle.marks.proofs.marked.Reads as marked-reads
 
 returns : tie.Need-returns
 unfolding mark-digit

@@ -1,10 +1,10 @@
--- `dealing::grid_rows::mark_byte` meets its contract. Assumes nothing.
+-- `marks::mark_byte` meets its contract. Assumes nothing.
 use native.Mathlib.Omega.{arith}
 use denote.Ref.{now}
-use Rattle.held_rows.proofs.RowBytes.{packed-small, eight-packed, last-four}
+use Rattle.marks.proofs.PackedMarks.{packed-small, eight-packed, last-four}
 use borrow.Author.Needs.{needs}
-use Rattle.held_rows.proofs.mark_byte.Statement.{statement}
-use Rattle.held_rows.proofs.mark_byte.Tie as tie
+use Rattle.marks.proofs.mark_byte.Statement.{statement}
+use Rattle.marks.proofs.mark_byte.Tie as tie
 
 add-if1 : tie.Need-add-if1
 add-if1 c = search needs

@@ -1,11 +1,11 @@
--- `dealing::grid_rows::marked` meets its contract. Assumes nothing.
+-- `marks::marked` meets its contract. Assumes nothing.
 use mathlib.Core.Path.{refl}
 use Rattle.grid.specs.Grid.{bit}
 use borrow.Author.Needs.{needs}
-use Rattle.held_rows.proofs.marked.Statement.{statement}
-use Rattle.held_rows.proofs.marked.Tie as tie
-use Rattle.held_rows.proofs.marked.Reads as reads
-use Rattle.held_rows.proofs.marked.Lts as lts
+use Rattle.marks.proofs.marked.Statement.{statement}
+use Rattle.marks.proofs.marked.Tie as tie
+use Rattle.marks.proofs.marked.Reads as reads
+use Rattle.marks.proofs.marked.Lts as lts
 
 cast-result : tie.Need-cast-result
 cast-result c = search needs
