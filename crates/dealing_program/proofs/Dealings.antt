@@ -175,6 +175,10 @@ pub parts-within : (b : Board) (xs : List ℕ) → length xs ≡ asked-bytes b �
 unfolding asked-bytes
 parts-within b xs long = omega arith
 
+-- a product as the code makes it
+pub times-same : {n m a b : ℕ} → n ≡ a → m ≡ b → n * m ≡ a * b
+times-same p q = rw (p, q)
+
 -- the words that are asked for
 pub words-most : (b : Board) → board-refusal b ≡ 0 → (columns b - 1) * row-long b ≤ 131072
 words-most b accepted =

@@ -224,11 +224,14 @@ fn grid_rows(line: &[u8], expected: usize) {
     }
 }
 
-fn lines_of_document_01() {
+fn numbers_of_document_01() {
     number(b"72 is 48", b"\x48", 72);
     number(b"128 is 80 01", b"\x80\x01", 128);
     number(b"65536 is 80 80 04", b"\x80\x80\x04", 65536);
     grid_rows(b"65536 positions at width 256 have 256 grid rows", 256);
+}
+
+fn answers_of_document_01() {
     answer(
         b"65536 positions at width 255 are refused by 5",
         nosingginger::key_length(2, 65536, 255, 1),
@@ -255,5 +258,6 @@ fn main() {
     key_stream_5();
     expansions(b"first", b"first.seed", b"first.stream");
     expansions(b"second", b"second.seed", b"second.stream");
-    lines_of_document_01();
+    numbers_of_document_01();
+    answers_of_document_01();
 }

@@ -6,6 +6,7 @@ use Rattle.grid.specs.Grid.{board, columns, grid-rows}
 use Rattle.grid.specs.Code.{board-of}
 use Rattle.grid.proofs.Facts.{board-in}
 use Rattle.grid.proofs.Sizes.{arrays-most}
+use Rattle.dealing_program.proofs.Dealings.{times-same}
 use borrow.Author.Needs.{needs}
 use Rattle.dealing_program.proofs.all_columns.Statement.{statement}
 use Rattle.dealing_program.proofs.all_columns.Tie as tie
@@ -19,13 +20,13 @@ columns-requires c κs = search needs
 mul-result : tie.Need-mul-result
 mul-result c =
     let b = board-of (c .before .before .args .board) in
-    let e : c .before .grid-rows .result * c .columns .result ≡ grid-rows b * columns b = cc in
+    let e : c .before .grid-rows .result * c .columns .result ≡ grid-rows b * columns b = times-same (c .before .grid-rows .ensures) (c .columns .ensures) in
     omega (arith, e, arrays-most b (board-in b (c .before .before .pre)))
 
 returns : tie.Need-returns
 returns c =
     let b = board-of (c .before .before .args .board) in
-    let e : c .before .grid-rows .result * c .columns .result ≡ grid-rows b * columns b = cc in
+    let e : c .before .grid-rows .result * c .columns .result ≡ grid-rows b * columns b = times-same (c .before .grid-rows .ensures) (c .columns .ensures) in
     (e, omega (arith, e, arrays-most b (board-in b (c .before .before .pre))))
 
 pub all-columns-spec : {M : Type 1} → statement M

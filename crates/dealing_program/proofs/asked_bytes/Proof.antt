@@ -1,12 +1,12 @@
 -- `dealing_program::asked_bytes` meets its contract. Assumes nothing.
-use mathlib.Core.Path.{_≡_}
-use Prim.Native.Nat.{_*_, _-_}
+use mathlib.Core.Path.{_≡_, ap}
+use Prim.Native.Nat.{ℕ, _*_, _-_}
 use native.Mathlib.Omega.{arith}
 use Rattle.grid.specs.Grid.{board, columns, row-long}
 use Rattle.grid.specs.Code.{board-of}
 use Rattle.key_lengths.proofs.Lengths.{columns-in}
 use Rattle.dealing_program.specs.Dealing.{asked-bytes}
-use Rattle.dealing_program.proofs.Dealings.{words-most}
+use Rattle.dealing_program.proofs.Dealings.{times-same, words-most}
 use borrow.Author.Needs.{needs}
 use Rattle.dealing_program.proofs.asked_bytes.Statement.{statement}
 use Rattle.dealing_program.proofs.asked_bytes.Tie as tie
@@ -26,7 +26,8 @@ row-length-requires c κs = search needs
 mul-words : tie.Need-mul-words
 mul-words c =
     let b = board-of (c .before .before .before .args .board) in
-    let e : (c .before .columns .result - 1) * c .row-length .result ≡ (columns b - 1) * row-long b = cc in
+    let e : (c .before .columns .result - 1) * c .row-length .result ≡ (columns b - 1) * row-long b =
+    times-same (ap (λ (n : ℕ). n - 1) (c .before .columns .ensures)) (c .row-length .ensures) in
     omega (arith, e, words-most b (c .before .before .before .pre))
 
 cast-result : tie.Need-cast-result
@@ -44,14 +45,16 @@ add-result-2 c = search needs
 add-result-3 : tie.Need-add-result-3
 add-result-3 c =
     let b = board-of (c .before .before .before .before .args .board) in
-    let e : (c .before .before .columns .result - 1) * c .before .row-length .result ≡ (columns b - 1) * row-long b = cc in
+    let e : (c .before .before .columns .result - 1) * c .before .row-length .result ≡ (columns b - 1) * row-long b =
+    times-same (ap (λ (n : ℕ). n - 1) (c .before .before .columns .ensures)) (c .before .row-length .ensures) in
     omega (arith, e, words-most b (c .before .before .before .before .pre))
 
 returns : tie.Need-returns
 unfolding asked-bytes board
 returns c =
     let b = board-of (c .before .before .before .before .args .board) in
-    let e : (c .before .before .columns .result - 1) * c .before .row-length .result ≡ (columns b - 1) * row-long b = cc in
+    let e : (c .before .before .columns .result - 1) * c .before .row-length .result ≡ (columns b - 1) * row-long b =
+    times-same (ap (λ (n : ℕ). n - 1) (c .before .before .columns .ensures)) (c .before .row-length .ensures) in
     omega (arith, e, c .before .before .before .all-columns .ensures .0)
 
 pub asked-bytes-spec : {M : Type 1} → statement M
