@@ -34,7 +34,7 @@ fn fitting(board: Board, odd: bool) -> u64
     below(!ODD, limit)
 }
 
-// Whether a column is among the free ones.
+// Whether a column is among the free ones. (A byte of 64 or above is none.)
 fn is_free(free: u64, column: u8) -> bool
     ensures { λ r. ⌜ r ≡ bit free column ⌝ }
 {

@@ -1,14 +1,12 @@
 -- `array_check::array_good` meets its contract. The loop's invariant: whether the columns so far were free and the others will be is
 -- whether all columns were at the start. The measure is what is left of the array.
 -- Assumes nothing.
-use mathlib.Core.Path.{_≡_, refl, sym, _∙_}
+use mathlib.Core.Path.{_≡_, refl, _∙_}
 use mathlib.Core.Bool.{_&&_}
-use Prim.Native.Nat.{_+_, _-_, _^_, _≤_, _<_}
+use Prim.Native.Nat.{_-_, _^_, _≤_, _<_}
 use native.Mathlib.Omega.{arith}
 use borrow.Author.Needs.{needs}
 use lib.ListN.{length, drop}
-use Rattle.grid.specs.Grid.{board, array-good}
-use Rattle.grid.specs.Code.{board-of}
 use Rattle.grid.proofs.Crossing.{all-free, good-at-once}
 use Rattle.grid.proofs.Checking.{array-next, array-done}
 use Rattle.grid.proofs.array_check.array_good.Statement.{statement}

@@ -1,9 +1,9 @@
 -- `array_check::fitting` meets its contract: the limit is the power of two, and the constants are the columns of either parity.
 -- Assumes nothing.
 use mathlib.Core.Bool.{true, false}
+use Prim.Native.Nat.{_≤_, _<_}
 use native.Mathlib.Omega.{arith}
 use borrow.Author.Needs.{needs}
-use Prim.Native.Nat.{_≤_, _<_}
 use Rattle.grid.specs.Grid.{board}
 use Rattle.grid.proofs.Facts.{board-in}
 use Rattle.grid.proofs.Powers.{shifted-one}
