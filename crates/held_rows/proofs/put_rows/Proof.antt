@@ -1,5 +1,5 @@
 -- `held_rows::put_rows` meets its contract. The loop's invariant: the grid rows before this one are written. Assumes nothing.
-use mathlib.Core.Path.{_≡_, refl, _∙_, subst}
+use mathlib.Core.Path.{_≡_, refl, ap, _∙_, subst}
 use Prim.Native.Nat.{ℕ, _+_, _*_, _-_, _≤_, _<_}
 use native.Mathlib.Omega.{arith}
 use lib.ListN.{length}
@@ -88,13 +88,14 @@ put-row-requires c κs =
     let l = c .before .before .before .before .before .loop in
     let J = c .before .before .before .before .before .before .before .columns in
     let m = c .before .before .mark-bytes in
+    let here = room (c .before .before .before .before) in
+    let row = ap length (row-here (l .grid-row) (J .result) (m .result) (a .player) b (now (a .arrays)) (now (a .seeds)) (J .ensures) (m .ensures)) in
     let within : l .grid-row < grid-rows b = omega (arith, c .before .before .before .before .before .before .grid-rows .ensures) in (
       omega arith,
       omega (arith, m .ensures, mark-bytes-most b (board-in b (s .pre .0))),
-      row-marks (l .grid-row * J .result) (J .result) (m .result) b (now (a .arrays)) (J .ensures) (m .ensures) (room (c .before .before .before .before)),
-      row-seeds (l .grid-row * J .result) (J .result) (now (a .arrays)) (now (a .seeds)) (room (c .before .before .before .before)) (all-seeds s),
-      rw (row-here (l .grid-row) (J .result) (m .result) (a .player) b (now (a .arrays)) (now (a .seeds)) (J .ensures) (m .ensures))
-          (omega (arith, l .inv .2 .next-is, l .inv .1, s .pre .4, body-within (l .grid-row) (grid-rows b) b (a .player) (now (a .arrays)) (now (a .seeds)) within)),
+      row-marks _ (J .result) (m .result) b (now (a .arrays)) (J .ensures) (m .ensures) (omega (arith, here)),
+      row-seeds _ (J .result) (now (a .arrays)) (now (a .seeds)) (omega (arith, here)) (all-seeds s),
+      omega (arith, row, l .inv .2 .next-is, l .inv .1, s .pre .4, body-within (l .grid-row) (grid-rows b) b (a .player) (now (a .arrays)) (now (a .seeds)) within),
     )
 
 add-grid-row : tie.Need-add-grid-row Inv-loop μ-loop
