@@ -1,10 +1,10 @@
 // One row from its seed, by document 01: `expand` makes it, `xor_row` XORs it into an output. A row of more than a block takes four counters
-// side by side; what is left over goes block by block. Assumes nothing.
+// side by side, one of more than four blocks five; a block that is left over is made alone. Assumes nothing.
 ghost use mathlib.Core.Path.{_≡_};
 ghost use Prim.Native.Nat.{_+_, _^_, _<_, _≤_};
 ghost use lib.ListN.{length, take};
 ghost use Rattle.xor.specs.Xor.{xors, zeros};
-ghost use Rattle.chacha20.specs.Expand.{blocks, expand};
+ghost use Rattle.chacha20.specs.Expand.{expand};
 ghost use Rattle.chacha20.specs.Rfc8439.{key-stream};
 ghost use Rattle.one_row.specs.OneRow.{Next-end};
 
@@ -13,6 +13,9 @@ pub const BLOCK_BYTES: usize = 64;
 
 // Bytes of four blocks.
 const FOUR_BLOCKS_BYTES: usize = 256;
+
+// Bytes of five blocks.
+const FIVE_BLOCKS_BYTES: usize = 320;
 
 // XORs the first bytes of `blocks` into `out`, as many as it has.
 pub fn xor_front(blocks: &[u8], out: &mut [u8])
@@ -26,7 +29,7 @@ pub fn xor_front(blocks: &[u8], out: &mut [u8])
 // XORs the block of `counter` into `out`, which has at most its length.
 fn xor_block(seed: &[u8], counter: u32, out: &mut [u8])
     requires { ⌜ (length (now seed) ≡ 32) × (length (now out) ≤ 64) ⌝ }
-    ensures { λ r. ⌜ now (out .exit) ≡ xors (now (out .entry)) (take (length (now (out .entry))) (blocks 1 counter (now (seed .entry)))) ⌝ }
+    ensures { λ r. ⌜ now (out .exit) ≡ xors (now (out .entry)) (key-stream (length (now (out .entry))) counter (now (seed .entry)) (zeros 12)) ⌝ }
 {
     let nonce = [0u8; 12];
     let mut made = [0u8; 64];
@@ -34,48 +37,60 @@ fn xor_block(seed: &[u8], counter: u32, out: &mut [u8])
     xor_front(&made, out);
 }
 
-// XORs the four blocks from `counter` on into `out`, which has at most their length. `made` is room for them.
-fn xor_four_blocks(seed: &[u8], counter: u32, made: &mut [u8], out: &mut [u8])
-    requires { ⌜ (length (now seed) ≡ 32) × (counter + 4 < 2 ^ 32) × (length (now made) ≡ 256) × (length (now out) ≤ 256) ⌝ }
-    ensures { λ r. ⌜ now (out .exit) ≡ xors (now (out .entry)) (take (length (now (out .entry))) (blocks 4 counter (now (seed .entry)))) ⌝ }
+// Makes four blocks of the key stream from the block of `counter` on, or five where `bytes` bytes are more than four.
+fn make_blocks(seed: &[u8], counter: u32, bytes: usize, made: &mut [u8])
+    requires { ⌜ (length (now seed) ≡ 32) × (counter + 4 < 2 ^ 32) × (bytes ≤ 320) × (length (now made) ≡ 320) ⌝ }
+    ensures { λ r. ⌜ take bytes (now (made .exit)) ≡ key-stream bytes counter (now (seed .entry)) (zeros 12) ⌝ }
 {
-    lanes::four_counters(seed, counter, made);
+    if bytes <= FOUR_BLOCKS_BYTES {
+        lanes::four_counters(seed, counter, &mut made[..FOUR_BLOCKS_BYTES]);
+        return;
+    }
+    lanes::five_counters(seed, counter, made);
+}
+
+// XORs the key stream from the block of `counter` on into `out`, which has at most the length of five blocks. `made` is room for them.
+fn xor_blocks(seed: &[u8], counter: u32, made: &mut [u8], out: &mut [u8])
+    requires { ⌜ (length (now seed) ≡ 32) × (counter + 4 < 2 ^ 32) × (length (now made) ≡ 320) × (length (now out) ≤ 320) ⌝ }
+    ensures { λ r. ⌜ now (out .exit) ≡ xors (now (out .entry)) (key-stream (length (now (out .entry))) counter (now (seed .entry)) (zeros 12)) ⌝ }
+{
+    make_blocks(seed, counter, out.len(), made);
     xor_front(made, out);
 }
 
-// Where the next four blocks end that begin at `done`, or the row of `all` bytes.
+// Where the next five blocks end that begin at `done`, or the row of `all` bytes.
 fn next_end(done: usize, all: usize) -> usize
     requires { ⌜ (done < all) × (all ≤ 4096) ⌝ }
     ensures { λ r. ⌜ Next-end done all r ⌝ }
 {
-    if all - done < FOUR_BLOCKS_BYTES {
+    if all - done < FIVE_BLOCKS_BYTES {
         return all;
     }
-    done + FOUR_BLOCKS_BYTES
+    done + FIVE_BLOCKS_BYTES
 }
 
-// XORs the row of one seed into `out`: by four blocks while more than one is left, then by one.
+// XORs the row of one seed into `out`: by five blocks, or four where these are enough, while more than one is left, then by one.
 pub fn xor_row(seed: &[u8], out: &mut [u8])
     requires { ⌜ (length (now seed) ≡ 32) × (length (now out) ≤ 4096) ⌝ }
     ensures { λ r. ⌜ now (out .exit) ≡ xors (now (out .entry)) (expand (length (now (out .entry))) (now (seed .entry))) ⌝ }
 {
-    let mut made = [0u8; 256];
+    let mut made = [0u8; 320];
     let mut done: usize = 0;
     let mut counter: u32 = 0;
     while BLOCK_BYTES < out.len() - done {
         let end = next_end(done, out.len());
-        xor_four_blocks(seed, counter, &mut made, &mut out[done..end]);
+        xor_blocks(seed, counter, &mut made, &mut out[done..end]);
         done = end;
-        counter += 4;
+        counter += 5;
     }
     if done < out.len() {
         xor_block(seed, counter, &mut out[done..]);
     }
 }
 
-// The key stream from the block of `counter` on, of at most four blocks: four made together where more than one is asked for.
+// The key stream from the block of `counter` on, of at most five blocks: one by itself, four straight into the output, else more that are made and cut.
 fn put_rest(seed: &[u8], counter: u32, out: &mut [u8])
-    requires { ⌜ (length (now seed) ≡ 32) × (counter + 4 < 2 ^ 32) × (length (now out) ≤ 256) ⌝ }
+    requires { ⌜ (length (now seed) ≡ 32) × (counter + 4 < 2 ^ 32) × (length (now out) ≤ 320) ⌝ }
     ensures { λ r. ⌜ now (out .exit) ≡ key-stream (length (now (out .entry))) counter (now (seed .entry)) (zeros 12) ⌝ }
 {
     if out.len() <= BLOCK_BYTES {
@@ -83,8 +98,12 @@ fn put_rest(seed: &[u8], counter: u32, out: &mut [u8])
         blocks::key_stream(seed, counter, &nonce, out);
         return;
     }
-    let mut made = [0u8; 256];
-    lanes::four_counters(seed, counter, &mut made);
+    if out.len() == FOUR_BLOCKS_BYTES {
+        lanes::four_counters(seed, counter, out);
+        return;
+    }
+    let mut made = [0u8; 320];
+    make_blocks(seed, counter, out.len(), &mut made);
     blocks::copy_front(&made, out);
 }
 
@@ -95,11 +114,11 @@ pub fn expand(seed: &[u8], out: &mut [u8])
 {
     let mut next: u32 = 0;
     let mut done: usize = 0;
-    while FOUR_BLOCKS_BYTES <= out.len() - done {
-        let end = done + FOUR_BLOCKS_BYTES;
-        lanes::four_counters(seed, next, &mut out[done..end]);
+    while FIVE_BLOCKS_BYTES <= out.len() - done {
+        let end = done + FIVE_BLOCKS_BYTES;
+        lanes::five_counters(seed, next, &mut out[done..end]);
         done = end;
-        next += 4;
+        next += 5;
     }
     put_rest(seed, next, &mut out[done..]);
 }

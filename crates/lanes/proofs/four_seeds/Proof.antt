@@ -11,14 +11,14 @@ slice-aggregate-open-seeds c = search needs
 open-seeds-requires : tie.Need-open-seeds-requires
 open-seeds-requires c κs = search needs
 
-four-blocks-requires : tie.Need-four-blocks-requires
-four-blocks-requires c κs = search needs
+blocks-beside-requires : tie.Need-blocks-beside-requires
+blocks-beside-requires c κs = search needs
 
 same-length : tie.Need-same-length
 same-length c = search needs
 
 returns : tie.Need-returns
-returns c = four-seeds (now (c .before .before .before .before .before .before .before .before .before .args .seeds)) _ _ (c .before .before .before .before .before .open-seeds .ensures) (c .before .before .four-blocks .ensures)
+returns c = four-seeds (now (c .before .before .before .before .before .before .before .before .before .args .seeds)) _ _ (c .before .before .before .before .before .open-seeds .ensures) (c .before .before .blocks-beside .ensures)
 
 pub four-seeds-spec : {M : Type 1} → statement M
 four-seeds-spec =
@@ -26,6 +26,6 @@ four-seeds-spec =
     (tie.spec
     slice-aggregate-open-seeds
     open-seeds-requires
-    four-blocks-requires
+    blocks-beside-requires
     same-length
     returns)

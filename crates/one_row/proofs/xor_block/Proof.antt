@@ -3,10 +3,10 @@ use borrow.Author.Needs.{needs}
 use mathlib.Core.Path.{ap, _∙_}
 use mathlib.Core.List.{List}
 use Prim.Native.Nat.{ℕ}
-use lib.ListN.{length, take}
+use lib.ListN.{length}
 use denote.Ref.{now}
 use Rattle.xor.specs.Xor.{xors, zeros}
-use Rattle.one_row.proofs.OneRow.{one-block}
+use Rattle.one_row.proofs.OneRow.{front-of-one}
 use Rattle.one_row.proofs.xor_block.Statement.{statement}
 use Rattle.one_row.proofs.xor_block.Tie as tie
 
@@ -33,7 +33,7 @@ unfolding zeros
 returns c =
     let a = c .before .before .before .before .before .before .before .before .before .before .before .args in
     let out = now (a .out) in
-    c .before .before .xor-front .ensures ∙ ap (λ (made : List ℕ). xors out (take (length out) made)) (one-block (a .counter) (now (a .seed)) _ (c .before .before .before .before .before .before .block .ensures))
+    c .before .before .xor-front .ensures ∙ ap (λ (l : List ℕ). xors out l) (front-of-one (length out) (a .counter) (now (a .seed)) _ (c .before .before .before .before .before .before .before .before .before .before .before .pre .1) (c .before .before .before .before .before .before .block .ensures))
 
 pub xor-block-spec : {M : Type 1} → statement M
 xor-block-spec =

@@ -1,17 +1,17 @@
 -- `one_row::xor_row` meets its contract. The loop's invariant: the row is XORed in up to `done`, the rest is as it was lent. Assumes nothing.
-use mathlib.Core.Path.{_≡_, refl, _∙_}
+use mathlib.Core.Path.{_≡_, _∙_}
 use Prim.Native.Nat.{_-_}
 use native.Mathlib.Omega.{arith}
 use lib.ListN.{length}
 use denote.Ref.{now}
 use borrow.Rule.Slice.PartMut.{mid-len, same-len-mid}
 use borrow.Author.Needs.{needs}
-use Rattle.one_row.proofs.OneRow.{Xored, none-xored, next-four, ended, last-block}
+use Rattle.one_row.proofs.OneRow.{Xored, none-xored, next-five, ended, last-block}
 use Rattle.one_row.proofs.xor_row.Statement.{statement}
 use Rattle.one_row.proofs.xor_row.Tie as tie
 
 abbrev Inv-loop : tie.InvT-loop
-Inv-loop seed out₀ made₀ done₀ counter₀ out made done counter = (length made ≡ 256) × Xored seed out₀ out done counter
+Inv-loop seed out₀ made₀ done₀ counter₀ out made done counter = (length made ≡ 320) × Xored seed out₀ out done counter
 
 abbrev μ-loop : tie.MeasureT-loop
 μ-loop seed out₀ made₀ done₀ counter₀ out made done counter = length out₀ - done
@@ -25,20 +25,20 @@ sub-loop c = omega arith
 next-end-requires : tie.Need-next-end-requires Inv-loop μ-loop
 next-end-requires c κs = (omega arith, omega arith)
 
-slice-aggregate-xor-four-blocks : tie.Need-slice-aggregate-xor-four-blocks Inv-loop μ-loop
-slice-aggregate-xor-four-blocks c = search needs
+slice-aggregate-xor-blocks : tie.Need-slice-aggregate-xor-blocks Inv-loop μ-loop
+slice-aggregate-xor-blocks c = search needs
 
-sub-xor-four-blocks : tie.Need-sub-xor-four-blocks Inv-loop μ-loop
-sub-xor-four-blocks c = omega arith
+sub-xor-blocks : tie.Need-sub-xor-blocks Inv-loop μ-loop
+sub-xor-blocks c = omega arith
 
-part-xor-four-blocks-start : tie.Need-part-xor-four-blocks-start Inv-loop μ-loop
-part-xor-four-blocks-start c = omega arith
+part-xor-blocks-start : tie.Need-part-xor-blocks-start Inv-loop μ-loop
+part-xor-blocks-start c = omega arith
 
-part-xor-four-blocks-end : tie.Need-part-xor-four-blocks-end Inv-loop μ-loop
-part-xor-four-blocks-end c = omega arith
+part-xor-blocks-end : tie.Need-part-xor-blocks-end Inv-loop μ-loop
+part-xor-blocks-end c = omega arith
 
-xor-four-blocks-requires : tie.Need-xor-four-blocks-requires Inv-loop μ-loop
-xor-four-blocks-requires c κs =
+xor-blocks-requires : tie.Need-xor-blocks-requires Inv-loop μ-loop
+xor-blocks-requires c κs =
     let l = c .before .before .before .before .loop in
     let pre = c .before .before .before .before .before .before .before .pre in
     let end = c .before .before .next-end in
@@ -57,8 +57,8 @@ loop-again : tie.Need-loop-again Inv-loop μ-loop
 loop-again c =
     let l = c .before .before .before .before .before .before .before .before .loop in
     let a = c .before .before .before .before .before .before .before .before .before .before .before .args in
-    let put = c .before .before .before .xor-four-blocks in
-    (put .kept .1 .1 .0 ∙ l .inv .0, next-four (now (a .seed)) (now (a .out)) (l .out) (l .done) (l .counter) (l .inv .1) (c .before .before .before .before .before .before .next-end .result) _ (put .last .1 .1 .1 .0) (omega arith) (omega arith) (c .before .before .before .before .before .before .next-end .ensures) (put .kept .1 .1 .1 .0) (put .ensures))
+    let put = c .before .before .before .xor-blocks in
+    (put .kept .1 .1 .0 ∙ l .inv .0, next-five (now (a .seed)) (now (a .out)) (l .out) (l .done) (l .counter) (l .inv .1) (c .before .before .before .before .before .before .next-end .result) _ (put .last .1 .1 .1 .0) (omega arith) (omega arith) (c .before .before .before .before .before .before .next-end .ensures) (put .kept .1 .1 .1 .0) (put .ensures))
 
 sub-xor-block : tie.Need-sub-xor-block Inv-loop μ-loop
 sub-xor-block c = omega arith
@@ -85,7 +85,7 @@ returns c =
     let l = c .before .before .before .before .before .before .loop in
     let a = c .before .before .before .before .before .before .before .before .before .args in
     let put = c .before .before .xor-block in
-    last-block (now (a .seed)) (now (a .out)) (l .out) (l .done) (l .counter) (l .inv .1) (put .last .1 .1 .0) (omega arith) (omega arith) (put .ensures)
+    last-block (now (a .seed)) (now (a .out)) (l .out) (l .done) (l .counter) (l .inv .1) (put .last .1 .1 .0) (omega arith) (put .ensures)
 
 same-length-2 : tie.Need-same-length-2 Inv-loop μ-loop
 same-length-2 c = c .before .before .loop .inv .1 .same
@@ -105,11 +105,11 @@ xor-row-spec =
     loop-holds
     sub-loop
     next-end-requires
-    slice-aggregate-xor-four-blocks
-    sub-xor-four-blocks
-    part-xor-four-blocks-start
-    part-xor-four-blocks-end
-    xor-four-blocks-requires
+    slice-aggregate-xor-blocks
+    sub-xor-blocks
+    part-xor-blocks-start
+    part-xor-blocks-end
+    xor-blocks-requires
     add-counter
     loop-less
     loop-again
