@@ -43,10 +43,10 @@ fn make_blocks(seed: &[u8], counter: u32, bytes: usize, made: &mut [u8])
     ensures { λ r. ⌜ take bytes (now (made .exit)) ≡ key-stream bytes counter (now (seed .entry)) (zeros 12) ⌝ }
 {
     if bytes <= FOUR_BLOCKS_BYTES {
-        lanes::four_counters(seed, counter, &mut made[..FOUR_BLOCKS_BYTES]);
+        lane_blocks::four_counters(seed, counter, &mut made[..FOUR_BLOCKS_BYTES]);
         return;
     }
-    lanes::five_counters(seed, counter, made);
+    lane_blocks::five_counters(seed, counter, made);
 }
 
 // XORs the key stream from the block of `counter` on into `out`, which has at most the length of five blocks. `made` is room for them.
@@ -99,7 +99,7 @@ fn put_rest(seed: &[u8], counter: u32, out: &mut [u8])
         return;
     }
     if out.len() == FOUR_BLOCKS_BYTES {
-        lanes::four_counters(seed, counter, out);
+        lane_blocks::four_counters(seed, counter, out);
         return;
     }
     let mut made = [0u8; 320];
@@ -116,7 +116,7 @@ pub fn expand(seed: &[u8], out: &mut [u8])
     let mut done: usize = 0;
     while FIVE_BLOCKS_BYTES <= out.len() - done {
         let end = done + FIVE_BLOCKS_BYTES;
-        lanes::five_counters(seed, next, &mut out[done..end]);
+        lane_blocks::five_counters(seed, next, &mut out[done..end]);
         done = end;
         next += 5;
     }

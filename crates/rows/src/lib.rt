@@ -18,7 +18,7 @@ fn xor_four(seeds: &[u8], made: &mut [u8], out: &mut [u8])
     requires { ⌜ (length (now seeds) ≡ 128) × (length (now made) ≡ 256) × (length (now out) ≤ 64) ⌝ }
     ensures { λ r. ⌜ now (out .exit) ≡ xors (now (out .entry)) (rows-joined 4 (length (now (out .entry))) (now (seeds .entry))) ⌝ }
 {
-    lanes::four_seeds(seeds, made);
+    lane_blocks::four_seeds(seeds, made);
     let mut lane: usize = 0;
     while lane < 4 {
         let from = BLOCK_BYTES * lane;

@@ -3,9 +3,9 @@ use borrow.Author.Needs.{needs}
 use native.Mathlib.Omega.{arith}
 use denote.Ref.{now}
 use Rattle.xor.specs.Xor.{zeros}
 use Rattle.lanes.proofs.Laid.{counters-made}
-use Rattle.lanes.proofs.counters.Statement.{statement}
-use Rattle.lanes.proofs.counters.Tie as tie
+use Rattle.lane_blocks.proofs.counters.Statement.{statement}
+use Rattle.lane_blocks.proofs.counters.Tie as tie
 
 slice-aggregate-open-counters : tie.Need-slice-aggregate-open-counters
 slice-aggregate-open-counters c = search needs

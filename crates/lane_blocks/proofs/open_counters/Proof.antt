@@ -5,10 +5,10 @@ use native.Mathlib.Omega.{arith}
 use denote.Ref.{now}
 use Rattle.xor.specs.Xor.{zeros}
 use Rattle.chacha20.specs.Expand.{opening}
 use Rattle.lanes.proofs.Places.{Done, none-done, one-done, all-done}
 use Rattle.lanes.proofs.Laid.{counter-opened}
-use Rattle.lanes.proofs.open_counters.Statement.{statement}
-use Rattle.lanes.proofs.open_counters.Tie as tie
+use Rattle.lane_blocks.proofs.open_counters.Statement.{statement}
+use Rattle.lane_blocks.proofs.open_counters.Tie as tie
 
 abbrev Inv-loop : tie.InvT-loop
 Inv-loop seed counter states₀ nonce next₀ l₀ states next l = (l ≤ 4) × (next ≡ counter + l) × Done (λ m. opening seed (counter + m)) l states₀ states

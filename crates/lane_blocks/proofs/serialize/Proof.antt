@@ -8,10 +8,10 @@ use lib.ListN.{length, drop}
 use denote.Ref.{now}
 use borrow.Rule.Slice.PartMut.{mid-len, same-len-mid}
 use Rattle.chacha20.specs.Expand.{low-bytes}
 use Rattle.lanes.specs.Lanes.{lanes-bytes}
 use Rattle.lanes.proofs.Laid.{next-lane, all-lanes}
-use Rattle.lanes.proofs.serialize.Statement.{statement}
-use Rattle.lanes.proofs.serialize.Tie as tie
+use Rattle.lane_blocks.proofs.serialize.Statement.{statement}
+use Rattle.lane_blocks.proofs.serialize.Tie as tie
 
 abbrev Inv-loop : tie.InvT-loop
 Inv-loop states out₀ l₀ out l = (l ≤ 4) × (length out ≡ 256) × (out ≡ lanes-bytes l states ++ drop (64 * l) out₀)

@@ -1,9 +1,9 @@
 -- `lanes::four_seeds` meets its contract. Four states, one of each seed, and their blocks. Assumes nothing.
 use borrow.Author.Needs.{needs}
 use denote.Ref.{now}
 use Rattle.lanes.proofs.Laid.{four-seeds}
-use Rattle.lanes.proofs.four_seeds.Statement.{statement}
-use Rattle.lanes.proofs.four_seeds.Tie as tie
+use Rattle.lane_blocks.proofs.four_seeds.Statement.{statement}
+use Rattle.lane_blocks.proofs.four_seeds.Tie as tie
 
 slice-aggregate-open-seeds : tie.Need-slice-aggregate-open-seeds
 slice-aggregate-open-seeds c = search needs

@@ -4,9 +4,9 @@ use mathlib.Core.Path.{sym}
 use native.Mathlib.Omega.{arith}
 use lib.Seq.{length-take-le}
 use denote.Ref.{now}
 use Rattle.lanes.proofs.Laid.{blocks-laid}
-use Rattle.lanes.proofs.blocks_beside.Statement.{statement}
-use Rattle.lanes.proofs.blocks_beside.Tie as tie
+use Rattle.lane_blocks.proofs.blocks_beside.Statement.{statement}
+use Rattle.lane_blocks.proofs.blocks_beside.Tie as tie
 
 slice-aggregate-twenty-rounds : tie.Need-slice-aggregate-twenty-rounds
 slice-aggregate-twenty-rounds c = search needs

@@ -1,9 +1,9 @@
 -- `lanes::put_fifth` meets its contract. The sums and their bytes, or nothing. Assumes nothing.
 use borrow.Author.Needs.{needs}
 use denote.Ref.{now}
 use Rattle.lanes.proofs.Laid.{fifth-room, fifth-put, nothing-put}
-use Rattle.lanes.proofs.put_fifth.Statement.{statement}
-use Rattle.lanes.proofs.put_fifth.Tie as tie
+use Rattle.lane_blocks.proofs.put_fifth.Statement.{statement}
+use Rattle.lane_blocks.proofs.put_fifth.Tie as tie
 
 slice-aggregate-add-into : tie.Need-slice-aggregate-add-into
 slice-aggregate-add-into c = search needs

@@ -6,10 +6,10 @@ use lib.ListN.{take, drop}
 use denote.Ref.{now}
 use Rattle.xor.specs.Xor.{zeros}
 use Rattle.chacha20.specs.Expand.{opening}
 use Rattle.lanes.proofs.Places.{Done, none-done, one-done, all-done}
 use Rattle.lanes.proofs.Laid.{seed-long, seed-opened}
-use Rattle.lanes.proofs.open_seeds.Statement.{statement}
-use Rattle.lanes.proofs.open_seeds.Tie as tie
+use Rattle.lane_blocks.proofs.open_seeds.Statement.{statement}
+use Rattle.lane_blocks.proofs.open_seeds.Tie as tie
 
 abbrev Inv-loop : tie.InvT-loop
 Inv-loop seeds states₀ nonce l₀ states l = (l ≤ 4) × Done (λ m. opening (take 32 (drop (32 * m) seeds)) 0) l states₀ states
