@@ -1,10 +1,10 @@
 // Dealing: the refusals 1 to 9 in their order, and the keys of all players. Nothing is written before all is asked. Assumes nothing.
+use array_check::arrays_good;
 use entry::refusals::ACCEPTED;
 use entry::refusals::REFUSED_ARRAYS;
 use entry::refusals::REFUSED_LENT;
 use entry::refusals::REFUSED_POINT;
 use entry::refusals::REFUSED_ROOM;
-use grid::array_check::arrays_good;
 use grid::board::Board;
 use key_lengths::SEED_BYTES;
 use key_lengths::key_length;

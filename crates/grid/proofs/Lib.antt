@@ -1,9 +1,7 @@
 pub mod Arrays
 pub mod Cells
-pub mod Checking
 pub mod Columns
 pub mod Counting
-pub mod Crossing
 pub mod Facts
 pub mod Hiding
 pub mod Holding

@@ -1,5 +1,4 @@
 pub mod Arrays
-pub mod Checking
 pub mod Code
 pub mod Grid
 pub mod Hiding

@@ -7,10 +7,10 @@ use Prim.Native.Nat.{_-_, _^_, _≤_, _<_}
 use native.Mathlib.Omega.{arith}
 use borrow.Author.Needs.{needs}
 use lib.ListN.{length, drop}
-use Rattle.grid.proofs.Crossing.{all-free, good-at-once}
-use Rattle.grid.proofs.Checking.{array-next, array-done}
-use Rattle.grid.proofs.array_check.array_good.Statement.{statement}
-use Rattle.grid.proofs.array_check.array_good.Tie as tie
+use Rattle.array_check.proofs.Crossing.{all-free, good-at-once}
+use Rattle.array_check.proofs.Checking.{array-next, array-done}
+use Rattle.array_check.proofs.array_good.Statement.{statement}
+use Rattle.array_check.proofs.array_good.Tie as tie
 
 abbrev Inv-loop : tie.InvT-loop
 Inv-loop odd array free₀ good₀ place₀ free good place =

@@ -3,11 +3,11 @@
 ghost use mathlib.Core.Path.{_≡_};
 ghost use Prim.Native.Nat.{_*_, _%_, _^_};
 ghost use lib.ListN.{length};
 ghost use Rattle.grid.specs.Grid.{board-refusal, columns, grid-rows, bit, array-good, arrays-good};
 ghost use Rattle.grid.specs.Moving.{turned};
-ghost use Rattle.grid.specs.Checking.{fitting};
+ghost use Rattle.array_check.specs.Checking.{fitting};
 ghost use Rattle.grid.specs.Code.{board-of};
-use crate::board::Board;
+use grid::board::Board;
 
 // Columns are below 64, so the bits of one number can say which: bit c is set where column c is among them. Here, those of odd parity.
 const ODD: u64 = 0x6996966996696996;

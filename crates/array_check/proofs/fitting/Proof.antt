@@ -4,12 +4,12 @@ use mathlib.Core.Bool.{true, false}
 use Prim.Native.Nat.{_≤_, _<_}
 use native.Mathlib.Omega.{arith}
 use borrow.Author.Needs.{needs}
 use Rattle.grid.specs.Grid.{board}
 use Rattle.grid.proofs.Facts.{board-in}
 use Rattle.grid.proofs.Powers.{shifted-one}
-use Rattle.grid.proofs.Checking.{those-fit}
-use Rattle.grid.proofs.array_check.fitting.Statement.{statement}
-use Rattle.grid.proofs.array_check.fitting.Tie as tie
+use Rattle.array_check.proofs.Checking.{those-fit}
+use Rattle.array_check.proofs.fitting.Statement.{statement}
+use Rattle.array_check.proofs.fitting.Tie as tie
 
 most : (c : tie.Start) → c .args .board .players ≤ 6
 unfolding board

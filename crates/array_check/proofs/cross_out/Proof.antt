@@ -1,10 +1,10 @@
 -- `array_check::cross_out` meets its contract: the shifted one is a power of two, and an XOR with it turns its bit round.
 -- Assumes nothing.
 use borrow.Author.Needs.{needs}
 use Rattle.grid.proofs.Powers.{shifted-one}
-use Rattle.grid.proofs.Checking.{crossed}
-use Rattle.grid.proofs.array_check.cross_out.Statement.{statement}
-use Rattle.grid.proofs.array_check.cross_out.Tie as tie
+use Rattle.array_check.proofs.Checking.{crossed}
+use Rattle.array_check.proofs.cross_out.Statement.{statement}
+use Rattle.array_check.proofs.cross_out.Tie as tie
 
 cast-result : tie.Need-cast-result
 cast-result c = search needs

@@ -4,10 +4,10 @@ use mathlib.Core.Path.{subst⁻¹}
 use Prim.Native.Nat.{ℕ, _<_}
 use borrow.Author.Needs.{needs}
 use lib.Pow.{pow-pos}
 use Rattle.grid.proofs.Powers.{shifted-one}
-use Rattle.grid.proofs.Checking.{below-power, below-all}
-use Rattle.grid.proofs.array_check.below.Statement.{statement}
-use Rattle.grid.proofs.array_check.below.Tie as tie
+use Rattle.array_check.proofs.Checking.{below-power, below-all}
+use Rattle.array_check.proofs.below.Statement.{statement}
+use Rattle.array_check.proofs.below.Tie as tie
 
 shl-result : tie.Need-shl-result
 shl-result c = search needs

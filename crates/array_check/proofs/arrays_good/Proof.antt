@@ -7,12 +7,12 @@ use native.Mathlib.Nat.{div-le-self}
 use native.Mathlib.Omega.{arith}
 use borrow.Author.Needs.{needs}
 use lib.ListN.{length, drop}
 use Rattle.grid.specs.Grid.{board, columns, grid-rows, arrays-good}
 use Rattle.grid.specs.Code.{board-of}
 use Rattle.grid.proofs.Facts.{board-in}
-use Rattle.grid.proofs.Checking.{row-inside, arrays-begin, arrays-stop, arrays-next, arrays-done}
-use Rattle.grid.proofs.array_check.arrays_good.Statement.{statement}
-use Rattle.grid.proofs.array_check.arrays_good.Tie as tie
+use Rattle.array_check.proofs.Checking.{row-inside, arrays-begin, arrays-stop, arrays-next, arrays-done}
+use Rattle.array_check.proofs.arrays_good.Statement.{statement}
+use Rattle.array_check.proofs.arrays_good.Tie as tie
 
 abbrev Inv-loop : tie.InvT-loop
 Inv-loop b point arrays rows wide point-row grid-row₀ grid-row =

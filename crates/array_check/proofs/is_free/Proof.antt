@@ -1,8 +1,8 @@
 -- `array_check::is_free` meets its contract. Assumes nothing.
 use borrow.Author.Needs.{needs}
-use Rattle.grid.proofs.Checking.{bit-read}
-use Rattle.grid.proofs.array_check.is_free.Statement.{statement}
-use Rattle.grid.proofs.array_check.is_free.Tie as tie
+use Rattle.array_check.proofs.Checking.{bit-read}
+use Rattle.array_check.proofs.is_free.Statement.{statement}
+use Rattle.array_check.proofs.is_free.Tie as tie
 
 cast-result : tie.Need-cast-result
 cast-result c = search needs

@@ -15,13 +15,13 @@ use lib.Pow.{pow-mono}
 use lib.Seq.{drop-cons, drop-drop}
 use borrow.Author.Tests.{eqb-true, eqb-false, ltb-true, ltb-false}
 use Rattle.xor.proofs.Laws.{and-left, and-right}
 use Rattle.grid.specs.Grid.{Board, columns, grid-rows, bit, ones, is-odd, same-parity, array-good, arrays-good}
 use Rattle.grid.specs.Moving.{turned}
-use Rattle.grid.specs.Checking.{columns-that, fitting}
+use Rattle.array_check.specs.Checking.{columns-that, fitting}
 use Rattle.grid.proofs.Refusing.{passed, failed}
 use Rattle.grid.proofs.Counting.{one-left}
 use Rattle.grid.proofs.Columns.{turned-by-xor}
-use Rattle.grid.proofs.Crossing.{all-free}
+use Rattle.array_check.proofs.Crossing.{all-free}
 
 -- COLUMNS AS BITS
 

@@ -10,10 +10,10 @@ use native.Mathlib.Nat.{add-zero, zero-add}
 use native.Mathlib.Omega.{arith}
 use lib.Dec.{ltb, eqb}
 use borrow.Author.Tests.{eq-eqb, ne-eqb, eqb-true, eqb-false, lt-ltb, le-ltb}
 use Rattle.grid.specs.Grid.{Board, bit, is-odd, same-parity, member, array-good}
 use Rattle.grid.specs.Moving.{turned}
-use Rattle.grid.specs.Checking.{columns-that, fitting}
+use Rattle.array_check.specs.Checking.{columns-that, fitting}
 use Rattle.grid.proofs.Columns.{bit-zero, bit-suc, unmarked-zero, turned-here, turned-others}
 
 -- NONE AGAIN BEHIND, AND NONE BEFORE
 
