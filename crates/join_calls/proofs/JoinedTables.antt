@@ -10,7 +10,7 @@ use Rattle.grid.specs.Grid.{Board, row-long}
 use Rattle.keys.specs.Keys.{key-long, table}
 use Rattle.entry.specs.Entry.{rule}
 use Rattle.join_calls.specs.JoinKeys.{joined-table}
-use Rattle.join_calls.proofs.Joining.{one-more}
+use Rattle.join_shares.proofs.Joining.{one-more}
 
 tables-step : (b : Board) (k : ℕ) (bs : List ℕ)
     → joined-table (suc k) b bs ≡ xors (table (λ seed. rule b seed) (take (key-long b) bs)) (joined-table k b (drop (key-long b) bs))

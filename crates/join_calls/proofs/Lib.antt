@@ -1,4 +1,2 @@
--- Keys and shares side by side. Assumes nothing.
-pub mod Joining
 pub mod InTurn
 pub mod JoinedTables

@@ -1,4 +1,4 @@
-// Join shares and Join keys, behind their refusals. Assumes nothing.
+// Join keys, behind its refusals. Assumes nothing.
 use entry::refusals::ACCEPTED;
 use entry::refusals::REFUSED_NUMBER;
 use grid::board::Board;
@@ -12,26 +12,11 @@ ghost use lib.ListN.{length};
 ghost use Rattle.grid.specs.Grid.{board-refusal};
 ghost use Rattle.grid.specs.Code.{board-of};
 ghost use Rattle.keys.specs.Keys.{key-long};
-ghost use Rattle.entry.specs.Entry.{Join-says};
 ghost use Rattle.join_calls.specs.JoinKeys.{places-refusal, joined-table, Join-keys-says};
 
 mod places;
-mod shares;
 
 use places::keys_refusal;
-
-// JOIN SHARES: 1, 4, 7, 9; writes the XOR of the shares of all players at one square.
-pub fn join_shares(players: u32, value_bytes: u32, shares: &[u8], output: &mut [u8]) -> u32
-    ensures { λ r. ⌜ Join-says players «value_bytes» (now (shares .entry)) r (now (output .entry)) (now (output .exit)) ⌝ }
-{
-    let refusal = shares::shares_refusal(players, value_bytes, shares.len(), output.len());
-    if refusal != ACCEPTED {
-        return refusal;
-    }
-    let share = value_bytes as usize;
-    shares::joined(players as usize, shares, &mut output[..share]);
-    ACCEPTED
-}
 
 // Fills `out` with the XOR of the tables of all keys, each accepted at its place.
 fn joined_tables(board: Board, keys: &[u8], out: &mut [u8])

@@ -24,7 +24,7 @@ use grid::board::MOST_POSITIONS;
 use grid::board::within;
 use grid::sensor::SENSORS;
 pub use join_calls::join_keys;
-pub use join_calls::join_shares;
+pub use join_shares::join_shares;
 pub use key_check::check::KeyCheck;
 pub use key_check::check::check_key;
 pub use key_check::held::held_seed;

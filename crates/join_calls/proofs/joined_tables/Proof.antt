@@ -8,7 +8,7 @@ use denote.Ref.{now}
 use Rattle.grid.specs.Grid.{board}
 use Rattle.grid.specs.Code.{board-of}
 use Rattle.join_calls.specs.JoinKeys.{joined-table}
-use Rattle.join_calls.proofs.Joining.{inside}
+use Rattle.join_shares.proofs.Joining.{inside}
 use Rattle.join_calls.proofs.InTurn.{key-before}
 use Rattle.join_calls.proofs.JoinedTables.{tables-none, table-more, tables-all}
 use borrow.Author.Needs.{needs}

@@ -2,10 +2,10 @@
 use native.Mathlib.Nat.{mul-le-mul}
 use native.Mathlib.Omega.{arith}
 use Rattle.grid.proofs.Refusing.{In, in-range, passed, failed}
-use Rattle.join_calls.proofs.Joining.{shares-1, shares-4, shares-7, shares-9, shares-0}
+use Rattle.join_shares.proofs.Joining.{shares-1, shares-4, shares-7, shares-9, shares-0}
 use borrow.Author.Needs.{needs}
-use Rattle.join_calls.proofs.shares.shares_refusal.Statement.{statement}
-use Rattle.join_calls.proofs.shares.shares_refusal.Tie as tie
+use Rattle.join_shares.proofs.shares_refusal.Statement.{statement}
+use Rattle.join_shares.proofs.shares_refusal.Tie as tie
 
 -- what each test has shown where it was passed
 players-in : (c : tie.Else1) → In 2 (c .before .before .args .players) 6

@@ -7,9 +7,9 @@ use denote.Ref.{now}
 use borrow.Author.Needs.{needs}
 use Rattle.entry.specs.Entry.{joined-shares, Join-says}
 use Rattle.entry.proofs.Answering.{put-refused, put-done, in-front-part}
-use Rattle.join_calls.proofs.Joining.{shares-fit}
-use Rattle.join_calls.proofs.join_shares.Statement.{statement}
-use Rattle.join_calls.proofs.join_shares.Tie as tie
+use Rattle.join_shares.proofs.Joining.{shares-fit}
+use Rattle.join_shares.proofs.join_shares.Statement.{statement}
+use Rattle.join_shares.proofs.join_shares.Tie as tie
 
 -- what is known where nothing refuses
 fit : (c : tie.Else1) → let a = c .before .before .before .before .args in

@@ -6,9 +6,9 @@ use lib.ListN.{length, drop}
 use denote.Ref.{now}
 use borrow.Author.Needs.{needs}
 use Rattle.entry.specs.Entry.{joined-shares}
-use Rattle.join_calls.proofs.Joining.{inside, part-whole, joined-none, share-more, joined-all}
-use Rattle.join_calls.proofs.shares.joined.Statement.{statement}
-use Rattle.join_calls.proofs.shares.joined.Tie as tie
+use Rattle.join_shares.proofs.Joining.{inside, part-whole, joined-none, share-more, joined-all}
+use Rattle.join_shares.proofs.joined.Statement.{statement}
+use Rattle.join_shares.proofs.joined.Tie as tie
 
 abbrev Inv-loop : tie.InvT-loop
 Inv-loop players shares out₀ share player₀ end₀ out player end =

@@ -1,4 +1,4 @@
-// Joining shares: the refusals 1, 4, 7 and 9, and the XOR of the shares of all players. Assumes nothing.
+// Join shares: the refusals 1, 4, 7 and 9, and the XOR of the shares of all players. Assumes nothing.
 use entry::refusals::ACCEPTED;
 use entry::refusals::REFUSED_LENT;
 use entry::refusals::REFUSED_PLAYERS;
@@ -11,10 +11,10 @@ use grid::board::within;
 ghost use mathlib.Core.Path.{_≡_};
 ghost use Prim.Native.Nat.{_*_};
 ghost use lib.ListN.{length};
-ghost use Rattle.entry.specs.Entry.{joined-shares, shares-refusal};
+ghost use Rattle.entry.specs.Entry.{joined-shares, shares-refusal, Join-says};
 
 // 1, 4, 7, 9: the first that fits, or 0.
-pub fn shares_refusal(players: u32, value_bytes: u32, shares: usize, room: usize) -> u32
+fn shares_refusal(players: u32, value_bytes: u32, shares: usize, room: usize) -> u32
     ensures { λ r. ⌜ r ≡ shares-refusal players «value_bytes» shares room ⌝ }
 {
     if !within(LEAST_PLAYERS, players, MOST_PLAYERS) {
@@ -34,7 +34,7 @@ pub fn shares_refusal(players: u32, value_bytes: u32, shares: usize, room: usize
 }
 
 // Fills `out` with the XOR of so many shares of its length, which stand one after another.
-pub fn joined(players: usize, shares: &[u8], out: &mut [u8])
+fn joined(players: usize, shares: &[u8], out: &mut [u8])
     requires { ⌜ length (now shares) ≡ players * length (now out) ⌝ }
     ensures { λ r. ⌜ now (out .exit) ≡ joined-shares players (length (now (out .entry))) (now (shares .entry)) ⌝ }
 {
@@ -48,4 +48,17 @@ pub fn joined(players: usize, shares: &[u8], out: &mut [u8])
         end = start;
         player -= 1;
     }
+}
+
+// JOIN SHARES: 1, 4, 7, 9; writes the XOR of the shares of all players at one square.
+pub fn join_shares(players: u32, value_bytes: u32, shares: &[u8], output: &mut [u8]) -> u32
+    ensures { λ r. ⌜ Join-says players «value_bytes» (now (shares .entry)) r (now (output .entry)) (now (output .exit)) ⌝ }
+{
+    let refusal = shares_refusal(players, value_bytes, shares.len(), output.len());
+    if refusal != ACCEPTED {
+        return refusal;
+    }
+    let share = value_bytes as usize;
+    joined(players as usize, shares, &mut output[..share]);
+    ACCEPTED
 }
