@@ -82,7 +82,7 @@ fn open_seeds(seeds: &[u8], states: &mut [u32])
     }
 }
 
-// Four blocks of one seed, or five, from the block of `counter` on. One function, so that it alone opens the lanes.
+// Four blocks of one seed, or five, from the block of `counter` on. `open_counters` has this one caller, in which the compiler unfolds it.
 fn counters(seed: &[u8], counter: u32, five: bool, out: &mut [u8])
     requires { ⌜ (length (now seed) ≡ 32) × (counter + 4 < 2 ^ 32) × (length (now out) ≡ 256 + cond five 64 0) ⌝ }
     ensures { λ r. ⌜ now (out .exit) ≡ blocks (cond five 5 4) counter (now (seed .entry)) ⌝ }

@@ -82,7 +82,7 @@ module _ (seed old out : List ℕ) (done counter : ℕ) (w : Xored seed old out 
   abbrev pub Part : (end : ℕ) → (part : List ℕ) → Type 0
   Part end part = part ≡ xors (midOf done (end - done) out) (key-stream (length (midOf done (end - done) out)) counter seed (zeros 12))
 
-  -- so are the bytes up to its end
+  -- with that the bytes up to `end` are XORed
   written : (end : ℕ) (part : List ℕ) → done < length old → done ≤ end → end ≤ length old → Part end part → putMid done (end - done) out part ≡ take end (xors old row) ++ drop end old
   written end part left behind within part-is =
       let m = end - done in

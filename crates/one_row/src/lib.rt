@@ -88,7 +88,7 @@ pub fn xor_row(seed: &[u8], out: &mut [u8])
     }
 }
 
-// The key stream from the block of `counter` on, of at most five blocks: one by itself, four straight into the output, else more that are made and cut.
+// At most five blocks of the key stream from the block of `counter` on: one by itself, four straight into the output, else made and cut.
 fn put_rest(seed: &[u8], counter: u32, out: &mut [u8])
     requires { ⌜ (length (now seed) ≡ 32) × (counter + 4 < 2 ^ 32) × (length (now out) ≤ 320) ⌝ }
     ensures { λ r. ⌜ now (out .exit) ≡ key-stream (length (now (out .entry))) counter (now (seed .entry)) (zeros 12) ⌝ }
