@@ -7,8 +7,7 @@ use key_lengths::stride;
 use key_reading::byte;
 use key_reading::part_from;
 ghost use mathlib.Core.Path.{_≡_};
-ghost use Prim.Native.Nat.{_+_, _*_, _-_, _≤_};
-ghost use lib.ListN.{length, take, drop};
+ghost use Prim.Native.Nat.{_-_, _≤_};
 ghost use Rattle.grid.specs.Grid.{board-refusal, columns, grid-rows};
 ghost use Rattle.grid.specs.Code.{board-of};
 ghost use Rattle.keys.specs.Keys.{count-marks, marks-good};
@@ -36,15 +35,6 @@ pub fn marks_between(part: &[u8], from: usize, until: usize) -> usize
         column += 1;
     }
     count
-}
-
-// The seed that stands behind the marks and so many other seeds.
-pub fn seed_after(part: &[u8], marks: usize, seeds: usize) -> &[u8]
-    requires { ⌜ marks + 32 * seeds + 32 ≤ length (now part) ⌝ }
-    ensures { λ r. ⌜ now r ≡ take 32 (drop (marks + 32 * seeds) (now (part .entry))) ⌝ }
-{
-    let from = marks + SEED_BYTES * seeds;
-    &part[from..from + SEED_BYTES]
 }
 
 // Whether a grid row's marks are in order: exactly half the columns are marked, and no spare bit is set.

@@ -9,6 +9,7 @@ use native.Mathlib.Numerals.{add-one}
 use native.Mathlib.Omega.{arith}
 use lib.ListN.{length, take, drop, length-drop}
 use lib.Seq.{length-take-le}
+use Rattle.writer.proofs.Cuts.{part-long}
 use Rattle.xor.specs.Xor.{xors, bytes-good}
 use Rattle.xor.proofs.Laws.{xors-assoc, xors-zeros-right}
 use Rattle.grid.specs.Grid.{Board, columns, grid-rows, row-long}
@@ -20,13 +21,6 @@ use Rattle.row_shares.specs.Words.{marked-words, row-words}
 -- a product of the code's numbers is that of the definition's
 pub products : (a b c d : ℕ) → a ≡ c → b ≡ d → a * b ≡ c * d
 products a b c d p q = rw (p, q)
-
--- the bytes from a on up to a + k are k
-pub part-long : (a k : ℕ) → a + k - a ≡ k
-part-long a k = omega arith
-
-pub part-whole : (a k : ℕ) (ps : List ℕ) → a + k ≤ length ps → length (take (a + k - a) (drop a ps)) ≡ k
-part-whole a k ps h = rw (part-long a k) (length-take-le k (drop a ps) (rw length-drop (omega arith)))
 
 -- the bytes from a place to the end
 pub rest-long : (a n : ℕ) (ps : List ℕ) → length ps ≡ a + n → length (take (length ps - a) (drop a ps)) ≡ n

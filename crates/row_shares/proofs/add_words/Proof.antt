@@ -12,7 +12,8 @@ use Rattle.xor.specs.Xor.{xors, bytes-good}
 use Rattle.xor.proofs.Laws.{good-by-entries}
 use Rattle.row_shares.specs.Shares.{stretch}
 use Rattle.row_shares.specs.Words.{marked-words}
-use Rattle.row_shares.proofs.Columns.{part-long, part-whole, word-fits, words-turn, words-end}
+use Rattle.writer.proofs.Cuts.{part-long, part-whole}
+use Rattle.row_shares.proofs.Columns.{word-fits, words-turn, words-end}
 use Rattle.row_shares.proofs.add_words.Statement.{statement}
 use Rattle.row_shares.proofs.add_words.Tie as tie
 
