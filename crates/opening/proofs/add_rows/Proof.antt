@@ -17,7 +17,7 @@ use Rattle.grid.proofs.Facts.{Board-in}
 use Rattle.keys.specs.Keys.{head-in}
 use Rattle.keys.proofs.Accepted.{Body-in}
 use Rattle.opening.proofs.Bodies.{key-board, key-board-accepted, key-body, table-is}
-use Rattle.row_shares.proofs.Columns.{part-long, part-whole}
+use Rattle.writer.proofs.Cuts.{part-long, part-whole}
 use Rattle.opening.proofs.GridRows.{row-in-table, part-length, part-marks, count-is, expansion, Added, nothing-added, row-added, all-added}
 use Rattle.opening.proofs.add_rows.Statement.{statement}
 use Rattle.opening.proofs.add_rows.Tie as tie
