@@ -197,18 +197,18 @@ module _ (b : Board) (l : Lent) (facts : Lent-fits b l) where
           let here = next-is-at h in
           wrote-length (some-keys (player - 1) 1) (omega (arith, so-far .next-is, begun-long, mul-le-mul-right (key-long b) h, z .room)) so-far ∙ begun-long
 
-      pub next-front-room : player < b .p → next + length (front player) ≤ length keys
-      next-front-room h =
-          omega (arith, next-is-at (omega arith), key-room h, front-long player h, keys-kept (omega arith))
+      pub next-front-room : (i : ℕ) → player < b .p → i < b .p → next + length (front i) ≤ length keys
+      next-front-room i h one =
+          omega (arith, next-is-at (omega arith), key-room h, front-long i one, keys-kept (omega arith))
 
       -- there is room behind its front for the last word, which stands before it
-      pub again-room : player < b .p → (end row : ℕ) (now : List ℕ) → row ≡ row-long b → Wrote next (front player) end keys now →
+      pub again-room : (i : ℕ) → player < b .p → i < b .p → (end row : ℕ) (now : List ℕ) → row ≡ row-long b → Wrote next (front i) end keys now →
           (last + row ≤ end) × (end + row ≤ length now)
-      again-room h end row now is p =
+      again-room i h one end row now is p =
           let here = next-is-at (omega arith) in
-          let kept = wrote-length (front player) (next-front-room h) p in (
+          let kept = wrote-length (front i) (next-front-room i h one) p in (
             omega (arith, start-is .0, start-is .1, here, mul-le-mul-right (key-long b) from, p .next-is),
-            omega (arith, p .next-is, front-long player h, here, key-room h, kept, keys-kept (omega arith)),
+            omega (arith, p .next-is, front-long i one, here, key-room h, kept, keys-kept (omega arith)),
           )
 
       -- and with both its key is written
