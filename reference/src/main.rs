@@ -30,8 +30,9 @@ usage: reference COMMAND
                     the same bytes each time
   make-program-cases DIR
                     writes the files of the programs' cases into DIR, with their list, DIR/cases:
-                    a line for each case, with the program, the file that it reads and the file
-                    that it writes; the same bytes each time
+                    a line for each case, with the program, the file that it reads, how many
+                    bytes it reads, which are zeros behind the file's own, and the file that it
+                    writes; the same bytes each time
   --help            this text
 
 deal and join read at most 65,537 bytes, which is enough to know that an input is too long.

@@ -1,6 +1,8 @@
-//! The stored cases of the two programs are those that are made, and every answer is met.
+//! The stored cases of the two programs are those that are made, every answer is met, and they tell
+//! a program that reads too little.
 
 use reference::cases::programs::{files, LIST};
+use reference::programs::{dealing_program, joining_program, MOST_BYTES};
 use std::collections::{BTreeMap, BTreeSet};
 use std::fs;
 use std::path::Path;
@@ -13,6 +15,15 @@ const ANSWERS: [(&str, &[u32]); 2] = [
     ("deal", &[0, 1, 2, 3, 4, 5, 6, 7, 8, 9, 10]),
     ("join", &[0, 1, 2, 3, 4, 5, 9, 10, 11, 12, 13, 15]),
 ];
+
+/// A line of the list: the program, the file that it reads, how many bytes, the file that it writes.
+fn case(line: &str) -> (&str, &str, usize, &str) {
+    let words: Vec<&str> = line.split(' ').collect();
+    let [program, input, length, output] = words[..] else {
+        panic!("a line of four words: {line}");
+    };
+    (program, input, length.parse().unwrap(), output)
+}
 
 #[test]
 fn the_stored_files_are_those_made() {
@@ -38,14 +49,35 @@ fn every_answer_is_met() {
     let list = String::from_utf8(files().remove(LIST).unwrap()).unwrap();
     let mut met: BTreeMap<&str, BTreeSet<u32>> = BTreeMap::new();
     for line in list.lines() {
-        let words: Vec<&str> = line.split(' ').collect();
-        let [program, _, output] = words[..] else {
-            panic!("a line of three words: {line}");
-        };
+        let (program, _, _, output) = case(line);
         let refusal = output.strip_prefix("refused-");
         let number = refusal.map_or(0, |number| number.parse().unwrap());
         met.entry(program).or_default().insert(number);
     }
     let all = ANSWERS.map(|(program, numbers)| (program, numbers.iter().copied().collect()));
     assert_eq!(met, BTreeMap::from(all));
+}
+
+/// A program that reads no more than the limit answers four cases of each otherwise, all of an
+/// input that goes on behind it; with one byte more it answers every case as with the whole.
+#[test]
+fn one_byte_above_the_limit_is_needed_and_enough() {
+    let files = files();
+    let list = String::from_utf8(files[LIST].clone()).unwrap();
+    let mut otherwise: BTreeMap<&str, usize> = BTreeMap::new();
+    for line in list.lines() {
+        let (program, input, length, output) = case(line);
+        let work = match program {
+            "deal" => dealing_program,
+            _ => joining_program,
+        };
+        let mut whole = files[input].clone();
+        whole.resize(length, 0);
+        let reading = |most: usize| work(&whole[..length.min(most)]);
+        assert_eq!(reading(MOST_BYTES + 1), files[output], "{line}");
+        if reading(MOST_BYTES) != files[output] {
+            *otherwise.entry(program).or_default() += 1;
+        }
+    }
+    assert_eq!(otherwise, BTreeMap::from([("deal", 4), ("join", 4)]));
 }

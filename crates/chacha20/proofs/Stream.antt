@@ -12,7 +12,7 @@ use lib.Seq.{take-take, take-append-add, take-append-le, drop-at, drop-drop}
 use Rattle.xor.specs.Xor.{zeros, bytes-good}
 use Rattle.xor.proofs.Laws.{Word, word-append, word-take, good-cons}
 use Rattle.chacha20.specs.Expand.{full, add, mixed, quarter, double-round, rounds, key-words, word-at, at, opening, sums, low-bytes, block, blocks, expand}
-use Rattle.chacha20.specs.Rfc8439.{constant, opening-state, chacha20-block, stream-blocks, key-stream}
+use Rattle.chacha20.specs.Rfc8439.{constant, opening-state, chacha20-block, stream-blocks, key-stream, Rows-by-rfc8439}
 use Rattle.chacha20.proofs.Parts.{length-sums, length-low-bytes}
 
 -- DOCUMENT 03'S definitions are the instance
@@ -33,6 +33,9 @@ blocks-is (suc k) c seed = rw (block-is seed c, blocks-is k (suc c) seed)
 pub expand-is : (n : ℕ) (seed : List ℕ) → expand n seed ≡ key-stream n 0 seed (zeros 12)
 unfolding expand key-stream
 expand-is n seed = rw (blocks-is ((n + 63) / 64) 0 seed)
+
+pub rows-by-rfc8439 : Rows-by-rfc8439
+rows-by-rfc8439 = record { block-is = block-is; blocks-are = blocks-is; expand-is = expand-is }
 
 -- LENGTHS: no step changes the sixteen words
 

@@ -1,10 +1,12 @@
 -- RFC 8439's ChaCha20 by key, block counter and nonce, over document 03's rounds: quarter rounds by places, the opening state, the
 -- block function and the key stream. Document 03's `block` and `expand` are its instances with the nonce twelve zeros and the counter
--- from 0: proofs/Stream.antt shows it. Assumes nothing: these are definitions.
+-- from 0: `Rows-by-rfc8439`, a statement whose term is in proofs/Stream.antt. Assumes nothing: these are definitions and one statement.
+use mathlib.Core.Path.{_≡_}
 use mathlib.Core.List.{List, [], _∷_, _++_}
 use Prim.Native.Nat.{ℕ, zero, suc, _+_, _/_, _<_}
 use lib.ListN.{getD, take}
-use Rattle.chacha20.specs.Expand.{at, quarter, rounds, key-words, sums, low-bytes}
+use Rattle.xor.specs.Xor.{zeros}
+use Rattle.chacha20.specs.Expand.{at, quarter, rounds, key-words, sums, low-bytes, block, blocks, expand}
 
 -- 2.2: four "indices .. of the ChaCha state"
 abbrev pub Places : (places : List ℕ) → Type 0
@@ -36,3 +38,9 @@ stream-blocks (suc k) c key nonce = chacha20-block key c nonce ++ stream-blocks 
 -- 2.4: n bytes of the key stream that begins with block c
 unfoldable pub key-stream : (n c : ℕ) → (key nonce : List ℕ) → List ℕ
 key-stream n c key nonce = take n (stream-blocks ((n + 63) / 64) c key nonce)
+
+-- ROWS BY RFC 8439: document 03's block, blocks and expansion are the RFC's; "the nonce twelve zero bytes, the block counter starts at 0"
+pub record Rows-by-rfc8439 : Type 0 where
+  pub block-is : (seed : List ℕ) (c : ℕ) → block seed c ≡ chacha20-block seed c (zeros 12)
+  pub blocks-are : (k c : ℕ) (seed : List ℕ) → blocks k c seed ≡ stream-blocks k c seed (zeros 12)
+  pub expand-is : (n : ℕ) (seed : List ℕ) → expand n seed ≡ key-stream n 0 seed (zeros 12)

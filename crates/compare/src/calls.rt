@@ -36,7 +36,6 @@ use case_file::NUMBER_4;
 use case_file::NUMBER_5;
 use case_file::OPERATION;
 use case_file::RESULT_1;
-use case_file::front;
 use case_file::length_at;
 use case_file::number_at;
 use case_file::part;
@@ -173,35 +172,32 @@ fn held_seed(head: &[u8], inputs: &[u8], answer: &[u8]) -> bool {
     check::same(nosingginger::held_seed(inputs, grid_row, column), answer)
 }
 
-// The dealing program answers bytes alone.
-fn dealing_program(inputs: &[u8], answer: &[u8], output: &mut [u8]) -> bool {
-    let written = dealing_program::dealing_program(inputs, output);
-    check::same(front(output, written), answer)
+// The dealing program answers bytes alone, in an output of its own.
+fn dealing_program(inputs: &[u8], answer: &[u8]) -> bool {
+    let mut output = io::large_buffer();
+    let written = dealing_program::dealing_program(inputs, &mut output);
+    check::same(&output[..written], answer)
 }
 
 // The joining program too; it is lent a table beside its output.
-fn joining_program(inputs: &[u8], answer: &[u8], table: &mut [u8], output: &mut [u8]) -> bool {
-    let written = joining_program::joining_program(inputs, table, output);
-    check::same(front(output, written), answer)
+fn joining_program(inputs: &[u8], answer: &[u8]) -> bool {
+    let mut table = io::large_buffer();
+    let mut output = program_output::text_buffer();
+    let written = joining_program::joining_program(inputs, &mut table, &mut output);
+    check::same(&output[..written], answer)
 }
 
 // Whether a case's call answers and leaves what the case says.
-pub fn equal(
-    head: &[u8],
-    inputs: &[u8],
-    answer: &[u8],
-    table: &mut [u8],
-    output: &mut [u8],
-) -> bool {
+pub fn equal(head: &[u8], inputs: &[u8], answer: &[u8], output: &mut [u8]) -> bool {
     let operation = byte(head, OPERATION);
     if operation == HELD_SEED {
         return held_seed(head, inputs, answer);
     }
     if operation == DEALING_PROGRAM {
-        return dealing_program(inputs, answer, output);
+        return dealing_program(inputs, answer);
     }
     if operation == JOINING_PROGRAM {
-        return joining_program(inputs, answer, table, output);
+        return joining_program(inputs, answer);
     }
     on_output(operation, head, inputs, answer, output)
 }

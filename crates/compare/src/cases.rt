@@ -71,14 +71,7 @@ fn one_if(counts: bool) -> u32
 }
 
 // One case, if it is of the operation.
-fn compare_one(
-    file: &[u8],
-    place: Place,
-    case: u32,
-    operation: u8,
-    table: &mut [u8],
-    output: &mut [u8],
-) -> Tally
+fn compare_one(file: &[u8], place: Place, case: u32, operation: u8, output: &mut [u8]) -> Tally
     ensures { λ r. ⌜ (r .cases ≤ 1) × (r .refused ≤ 1) × (r .equal ≤ 1) ⌝ }
 {
     let head = part(file, place.head, HEAD_BYTES);
@@ -91,7 +84,7 @@ fn compare_one(
     }
     let inputs = part(file, place.inputs, inputs_length(head));
     let answer = part(file, place.answer, answer_length(head));
-    let same = equal(head, inputs, answer, table, output);
+    let same = equal(head, inputs, answer, output);
     if !same {
         report(case);
     }
@@ -114,8 +107,8 @@ fn together(tally: Tally, more: Tally) -> Tally
     }
 }
 
-// All cases of one operation. `table` and `output` are scratch.
-pub fn compare(file: &[u8], operation: u8, table: &mut [u8], output: &mut [u8]) -> Tally {
+// All cases of one operation. `output` is scratch.
+pub fn compare(file: &[u8], operation: u8, output: &mut [u8]) -> Tally {
     let count = count(file);
     let mut tally = Tally {
         cases: 0,
@@ -125,7 +118,7 @@ pub fn compare(file: &[u8], operation: u8, table: &mut [u8], output: &mut [u8]) 
     let mut place = place_at(file, FILE_HEAD_BYTES, FILE_HEAD_BYTES);
     let mut case: u32 = 0;
     while case < count {
-        let more = compare_one(file, place, case, operation, table, output);
+        let more = compare_one(file, place, case, operation, output);
         tally = together(tally, more);
         place = next(file, place);
         case += 1;

@@ -48,9 +48,8 @@ fn file_buffer() -> [u8; 1600000]
 
 // One operation's line, behind those of its cases that differ.
 fn line(name: &[u8], operation: u8, file: &[u8]) {
-    let mut table = io::large_buffer();
     let mut output = output_buffer();
-    let tally = cases::compare(file, operation, &mut table, &mut output);
+    let tally = cases::compare(file, operation, &mut output);
     text(name);
     text(b": ");
     number(tally.cases);

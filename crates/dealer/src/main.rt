@@ -1,12 +1,13 @@
 // The dealing program: five numbers, value, arrays, seeds and words from standard input, the keys or `refused n` to standard output. It
-// reads one byte more than the most, so that an input above that is known. The work is `dealing_program::dealing_program`. Assumes nothing.
+// reads one byte more than the most, so that an input above that is known. The work is `dealing_program::run`, whose types are those of the
+// buffers. Assumes nothing.
 use libc::STDIN_FILENO;
 use libc::STDOUT_FILENO;
 
 fn main() {
     let mut input = program_output::input_buffer();
-    let length = io::read_full(STDIN_FILENO, &mut input);
+    let count = io::read_full(STDIN_FILENO, &mut input);
     let mut output = io::large_buffer();
-    let written = dealing_program::dealing_program(&input[..length], &mut output);
+    let written = dealing_program::run(&input, count, &mut output);
     io::write_all(STDOUT_FILENO, &output[..written]);
 }

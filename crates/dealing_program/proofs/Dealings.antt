@@ -1,17 +1,15 @@
--- The laws of the dealing program: its five numbers are read as a header's, its lent parts are cut one behind another, and its last numbers
--- are Deal's with the room that it gives to the keys. Assumes nothing.
+-- The laws of the dealing program: its five numbers are read as a header's, its lent parts are cut one behind another, its last numbers
+-- are Deal's with an output of the most bytes, and 65,537 bytes of its input are enough. Assumes nothing.
 use mathlib.Core.Path.{_≡_, refl, sym, ap, _∙_, subst}
-use mathlib.Core.Bool.{Bool, true, false, _&&_, _||_, not, cond, false≢true}
-use mathlib.Core.List.{List, _++_}
+use mathlib.Core.Bool.{Bool, true, false, _||_, not, cond, false≢true}
+use mathlib.Core.List.{List}
 use Prim.Native.Nat.{ℕ, _+_, _*_, _-_, _≤_, _<_}
 use native.Mathlib.Omega.{arith}
 use native.Mathlib.Nat.{mul-le-mul}
 use lib.Dec.{ltb, leb, eqb}
 use lib.ListN.{length, take, drop, length-drop}
 use lib.Seq.{length-take-le, take-all}
-use borrow.Author.Tests.{lt-ltb, le-ltb, le-leb, lt-leb, ltb-true, ltb-false, leb-true, leb-false, eqb-true, eq-eqb, ne-eqb, not-false}
-use Rattle.xor.specs.Xor.{bytes-good}
-use Rattle.xor.proofs.Laws.{and-left, and-right, good-take, good-drop}
+use borrow.Author.Tests.{lt-ltb, le-ltb, le-leb, lt-leb, ltb-true, ltb-false, leb-false, eqb-true, eq-eqb, ne-eqb, not-false}
 use Rattle.grid.specs.Grid.{Board, board, board-refusal, columns, grid-rows, row-long, arrays-good}
 use Rattle.grid.proofs.Facts.{board-in}
 use Rattle.grid.proofs.Sizes.{columns-few, row-most}
@@ -21,16 +19,19 @@ use Rattle.key_reading.specs.declared.Reader.{Reader}
 use Rattle.key_reading.specs.declared.Header.{Header}
 use Rattle.key_reading.specs.declared.Heading.{Heading}
 use Rattle.key_reading.proofs.Reading.{heading-says, heading-none}
-use Rattle.keys.proofs.Accepted.{passed, last-passed, refusing}
+use Rattle.keys.proofs.Accepted.{passed, refusing}
+use Rattle.keys.proofs.Cut.{head-cut}
 use Rattle.entry.specs.Entry.{or-else, lent, Put-says, Deal-says}
 use Rattle.entry.proofs.Answering.{first-fits, next-fits}
 use Rattle.join_calls.proofs.InTurn.{neither}
 use Rattle.entry.proofs.Putting.{room-there, answer-is, put, untouched}
-use Rattle.promises.proofs.DealtKeys.{lent-accepted, keys-length}
 use Rattle.text.specs.Text.{refused-line}
-use Rattle.program_output.specs.Output.{Writes}
-use Rattle.program_output.proofs.Writing.{writes-none, writes-all, put-front}
-use Rattle.dealing_program.specs.Dealing.{input-in, asked-bytes, lent-in, asked-refusal, lent-refusal, dealing-refusal, keys-of, dealing-output, dealt-output, Deals}
+use Rattle.text.proofs.Laws.{refused-most}
+use Rattle.program_output.specs.Output.{Writes, Enough, Fits}
+use Rattle.program_output.proofs.Writing.{writes-as, writes-within, either-fits, read-none, read-some, read-either}
+use Rattle.dealing_program.specs.Dealing.{Input, input-in, asked-bytes, lent-in, asked-refusal, lent-refusal, dealing-refusal, keys-of, dealing-output}
+use Rattle.dealing_program.specs.Dealing.{Dealing-whole, Deals-read, dealt-output, Deals}
+use Rattle.dealing_program.proofs.Lengths.{keys-count}
 
 -- what is cut from a place to the end
 all-behind : (from : ℕ) (xs : List ℕ) → take (length xs - from) (drop from xs) ≡ drop from xs
@@ -186,6 +187,12 @@ words-most b accepted =
     let fewer : columns b - 1 ≤ 32 = omega (arith, columns-few b f) in
     mul-le-mul fewer (row-most b f)
 
+-- 8 comes before 9
+eight-nine : (t : Bool) (n : ℕ) → or-else (cond t 0 8) n ≡ cond (not t) 8 n
+unfolding or-else
+eight-nine true n = refl
+eight-nine false n = refl
+
 module _ (b : Board) (a : ℕ) (xs : List ℕ) (accepted : board-refusal b ≡ 0) (point : a < b .n) (long : length xs ≡ asked-bytes b) where
   arrays : Bool
   arrays = arrays-good (grid-rows b) 0 b a (lent-in b a xs .arrays)
@@ -206,132 +213,135 @@ module _ (b : Board) (a : ℕ) (xs : List ℕ) (accepted : board-refusal b ≡ 0
       let four = eq-eqb (length (drop (b .w + cells + 32 * cells) xs)) words (fourth-part (b .w) cells (32 * cells) words xs lengths) in
       rw (accepted, lt-leb (b .n) a point, one, two, three, four)
 
-  value-good : bytes-good xs ≡ true → bytes-good (lent-in b a xs .value) ≡ true
-  unfolding lent-in lent
-  value-good good = good-take (b .w) xs good
-
-  seeds-good : bytes-good xs ≡ true → bytes-good (lent-in b a xs .seeds) ≡ true
-  unfolding lent-in lent
-  seeds-good good =
-      let cells = grid-rows b * columns b in good-take (32 * cells) (drop (b .w + cells) xs) (good-drop (b .w + cells) xs good)
-
-  words-good : bytes-good xs ≡ true → bytes-good (lent-in b a xs .words) ≡ true
-  unfolding lent-in lent
-  words-good good = let cells = grid-rows b * columns b in good-drop (b .w + cells + 32 * cells) xs good
-
   -- the keys are as long as they are asked, where the arrays are in order
-  keys-fit : bytes-good xs ≡ true → arrays ≡ true → length (keys-of b (lent-in b a xs)) ≡ b .p * key-long b
+  keys-fit : arrays ≡ true → length (keys-of b (lent-in b a xs)) ≡ b .p * key-long b
   unfolding keys-of
-  keys-fit good fine =
-      keys-length b (lent-in b a xs) (lent-accepted b (lent-in b a xs) (deal-asks ∙ rw fine) (value-good good) (seeds-good good) (words-good good))
+  keys-fit fine = keys-count b (lent-in b a xs) (deal-asks ∙ rw fine)
 
-  program-asks : (keys : ℕ) → keys ≡ b .p * key-long b → lent-refusal b (lent-in b a xs) ≡ cond (not arrays) 8 (cond (ltb 65536 keys) 9 0)
+  -- 8, 9: with an output of the most bytes, Deal's numbers are the program's
+  program-asks : (room : ℕ) → room ≡ 65536 →
+      or-else (deal-refusal b (lent-in b a xs)) (cond (ltb room (b .p * key-long b)) 9 0) ≡ lent-refusal b (lent-in b a xs)
   unfolding lent-refusal lent-in lent arrays
-  program-asks keys is = rw is
+  program-asks room is = rw (deal-asks, is) (eight-nine arrays (cond (ltb 65536 (b .p * key-long b)) 9 0))
 
--- 8, 9, AND THE ROOM that the keys are given: what Deal's number says, and which is the program's
+  -- where neither refuses, the keys are as many as asked, and not above the most
+  pub dealt-keys : lent-refusal b (lent-in b a xs) ≡ 0 → (length (keys-of b (lent-in b a xs)) ≡ b .p * key-long b) × (b .p * key-long b ≤ 65536)
+  unfolding lent-refusal lent-in lent arrays
+  dealt-keys z =
+      let eight = passed (not arrays) 8 _ (λ t n. omega arith) z in
+      (keys-fit (not-false arrays (eight .0)), room-there 65536 (b .p * key-long b) (eight .1))
 
-unfoldable asked-of-deal : (arrays : Bool) → (keys room : ℕ) → ℕ
-asked-of-deal t keys room = or-else (cond t 0 8) (cond (ltb room keys) 9 0)
+  -- what Deal leaves in such an output
+  module _ (r : ℕ) (o z : List ℕ) (room : length o ≡ 65536) (says : Deals b (lent-in b a xs) r o z) where
+    as-put : Put-says (lent-refusal b (lent-in b a xs)) (keys-of b (lent-in b a xs)) r o z
+    unfolding Deals Deal-says keys-of board lent
+    as-put = subst (λ (n : ℕ). Put-says n (keys-of b (lent-in b a xs)) r o z) (program-asks (length o) room) says
 
-when-written : (t : Bool) (keys room : ℕ) → asked-of-deal t keys room ≡ 0 → (t ≡ true) × (keys ≤ room)
-unfolding asked-of-deal
-when-written t keys room z =
-    let both = neither (cond t 0 8) (cond (ltb room keys) 9 0) z in
-    (last-passed t 8 (omega arith) (both .0), room-there room keys (both .1))
+    number : r ≡ lent-refusal b (lent-in b a xs)
+    number = answer-is _ (keys-of b (lent-in b a xs)) r o z as-put
 
-when-short : (t : Bool) (keys room : ℕ) → asked-of-deal t keys room ≡ 9 → (t ≡ true) × (room < keys)
-unfolding asked-of-deal or-else
-when-short false keys room z = absurd (omega arith)
-when-short true keys room z = go (ltb room keys) refl z
+    pub dealt-written : (keys : ℕ) → keys ≡ b .p * key-long b → r ≡ 0 → Writes (dealt-output b (lent-in b a xs)) keys o z
+    unfolding dealt-output Writes
+    dealt-written keys is none =
+        let accepted : lent-refusal b (lent-in b a xs) ≡ 0 = sym number ∙ none in
+        rw accepted (is ∙ sym (dealt-keys accepted .0), put _ (keys-of b (lent-in b a xs)) r o z as-put accepted)
+
+    pub dealt-refused : (answer : ℕ) (y : List ℕ) → (r ≡ 0 → ⊥) → Writes (refused-line r) answer z y → Writes (dealt-output b (lent-in b a xs)) answer o y
+    unfolding dealt-output
+    dealt-refused answer y some w =
+        rw (← number, ne-eqb r 0 some)
+        (subst (λ (l : List ℕ). Writes (refused-line r) answer l y) (untouched _ (keys-of b (lent-in b a xs)) r o z as-put some) w)
+
+-- WHAT MAKES THE BUFFERS RIGHT
+
+-- of an input above the most the board and the point decide: 1 to 5, 6, or else 7
+long-asked : Board → (point : ℕ) → ℕ
+long-asked b a = cond (not (eqb (board-refusal b) 0)) (board-refusal b) (cond (leb (b .n) a) 6 7)
+
+long-asks : (b : Board) (a whole rest : ℕ) → 65536 < whole → asked-refusal b a whole rest ≡ long-asked b a
+unfolding asked-refusal long-asked
+long-asks b a whole rest h = rw (lt-ltb 65536 whole h)
+
+some-asked : (b : Board) (a : ℕ) → long-asked b a ≡ 0 → ⊥
+unfolding long-asked
+some-asked b a z = last (leb (b .n) a) (passed (not (eqb (board-refusal b) 0)) (board-refusal b) _ (refusing (board-refusal b)) z .1)
   where
-    go : (n : Bool) → ltb room keys ≡ n → _≡_ {A = ℕ} (cond n 9 0) 9 → (true ≡ true) × (room < keys)
-    go true e z = (refl, ltb-true room keys e)
-    go false e z = absurd (omega arith)
+    last : (t : Bool) → _≡_ {A = ℕ} (cond t 6 7) 0 → ⊥
+    last true z = omega arith
+    last false z = omega arith
 
-when-refused : (t : Bool) (keys room r : ℕ) → r ≡ asked-of-deal t keys room → (r ≡ 0 → ⊥) → (eqb r 9 && leb keys 65536) ≡ false →
-    r ≡ cond (not t) 8 (cond (ltb 65536 keys) 9 0)
-unfolding asked-of-deal or-else
-when-refused false keys room r is some other = is
-when-refused true keys room r is some other = go (ltb room keys) refl is
+-- and 10 comes first
+long-number : Input → ℕ
+long-number i = cond (not (i .good)) 10 (long-asked (i .board) (i .point))
+
+some-number : (i : Input) → long-number i ≡ 0 → ⊥
+unfolding long-number
+some-number i z = some-asked (i .board) (i .point) (passed (not (i .good)) 10 _ (λ t n. omega arith) z .1)
+
+module _ (bs : List ℕ) (above : 65536 < length bs) where
+  long-refused : dealing-refusal bs ≡ long-number (input-in bs)
+  unfolding dealing-refusal long-number
+  long-refused =
+      let i = input-in bs in
+      let b = i .board in
+      rw (long-asks b (i .point) (length bs) (length (i .rest)) above)
+      (ap (λ (n : ℕ). cond (not (i .good)) 10 n)
+      (first-fits (long-asked b (i .point)) (lent-refusal b (lent-in b (i .point) (i .rest))) (some-asked b (i .point))))
+
+  long-output : dealing-output bs ≡ refused-line (long-number (input-in bs))
+  unfolding dealing-output
+  long-output = rw (long-refused, ne-eqb (long-number (input-in bs)) 0 (some-number (input-in bs)))
+
+-- the numbers of an input are those of its first bytes
+cut-number : (n : ℕ) (bs : List ℕ) → 15 ≤ n → long-number (input-in (take n bs)) ≡ long-number (input-in bs)
+unfolding long-number
+cut-number n bs h =
+    let same = head-cut n bs h in rw (as-header (take n bs), as-header bs, same .good, same .board, same .player)
+
+pub dealing-enough : {n : ℕ} → 65536 < n → Enough n dealing-output
+unfolding Enough
+dealing-enough {n} h bs = go (ltb n (length bs)) refl
   where
-    go : (n : Bool) → ltb room keys ≡ n → r ≡ cond n 9 0 → r ≡ cond (ltb 65536 keys) 9 0
-    go true e nine = rw (lt-ltb 65536 keys (leb-false keys 65536 (rw (eq-eqb r 9 nine) at other))) nine
-    go false e none = absurd (some none)
+    go : (t : Bool) → ltb n (length bs) ≡ t → dealing-output (take n bs) ≡ dealing-output bs
+    go true e =
+        let longer : n < length bs = ltb-true n (length bs) e in
+        long-output (take n bs) (rw (length-take-le n bs (omega arith)) h)
+        ∙ ap (λ (k : ℕ). refused-line k) (cut-number n bs (omega arith)) ∙ sym (long-output bs (omega arith))
+    go false e = ap dealing-output (take-all n bs (ltb-false n (length bs) e))
 
--- keys that the room holds are not more than the most
-few-keys : (keys room output : ℕ) → room ≡ cond (ltb 65536 keys) 0 output → keys ≤ room → keys ≤ 65536
-few-keys keys room output is h = go (ltb 65536 keys) refl is
-  where
-    go : (n : Bool) → ltb 65536 keys ≡ n → room ≡ cond n 0 output → keys ≤ 65536
-    go true e none = let many = ltb-true 65536 keys e in absurd (omega arith)
-    go false e whole = ltb-false 65536 keys e
+pub dealing-fits : {n : ℕ} → 65536 ≤ n → Fits n dealing-output
+unfolding Fits dealing-output dealing-refusal
+dealing-fits {n} h bs =
+    let i = input-in bs in
+    let whole = length bs in
+    let rest = length (i .rest) in
+    either-fits (eqb (dealing-refusal bs) 0) (keys-of (i .board) (lent-in (i .board) (i .point) (i .rest))) (refused-line (dealing-refusal bs)) n
+    (λ e.
+    let ten = passed (not (i .good)) 10 _ (λ t n. omega arith) (eqb-true (dealing-refusal bs) 0 e) in
+    let both = neither (asked-refusal (i .board) (i .point) whole rest) _ (ten .1) in
+    let fine = asked-fine (i .board) (i .point) whole rest (both .0) in
+    let keys = dealt-keys (i .board) (i .point) (i .rest) (fine .0) (fine .1) (fine .2) (both .1) in
+    omega (arith, keys .0, keys .1))
+    (λ e. omega (arith, refused-most (dealing-refusal bs)))
 
-pub room-within : (keys room output : ℕ) → room ≡ cond (ltb 65536 keys) 0 output → room ≤ output
-room-within keys room output is = go (ltb 65536 keys) is
-  where
-    go : (n : Bool) → room ≡ cond n 0 output → room ≤ output
-    go true none = omega arith
-    go false whole = omega arith
+pub dealing-whole : Dealing-whole
+unfolding Dealing-whole
+dealing-whole = (dealing-enough (omega arith), dealing-fits (omega arith))
 
-module _ (b : Board) (a : ℕ) (xs : List ℕ) (accepted : board-refusal b ≡ 0) (point : a < b .n) (long : length xs ≡ asked-bytes b) (good : bytes-good xs ≡ true)
-    (keys room r : ℕ) (o last : List ℕ) (is : keys ≡ b .p * key-long b) (given : room ≡ cond (ltb 65536 keys) 0 (length o))
-    (says : Deals b (lent-in b a xs) r (take room o) last)
-  where
-    fine : Bool
-    fine = arrays b a xs accepted point long
+-- A BUFFER that an input was read into
 
-    within : room ≤ length o
-    within = room-within keys room (length o) given
+module _ (xs : List ℕ) (n r : ℕ) (o z : List ℕ) where
+  pub deals-read : 65536 < length xs → n ≤ length xs → Writes (dealing-output (take n xs)) r o z → Deals-read xs n r o z
+  unfolding Deals-read Enough
+  deals-read above within says =
+      read-some xs n within
+      (λ bs read. writes-as (dealing-output bs) (dealing-output (take n xs)) r o z (sym (ap dealing-output read ∙ dealing-enough above bs)) says)
 
-    as-put : Put-says (asked-of-deal fine keys room) (keys-of b (lent-in b a xs)) r (take room o) last
-    unfolding Deals Deal-says keys-of board lent fine asked-of-deal
-    as-put =
-        subst (λ (n : ℕ). Put-says n (keys-of b (lent-in b a xs)) r (take room o) last)
-        (ap (λ (n : ℕ). or-else n (cond (ltb (length (take room o)) (b .p * key-long b)) 9 0)) (deal-asks b a xs accepted point long)
-        ∙ rw (length-take-le room o within, is))
-        says
+  pub deals-none : length xs < n → r ≡ 0 → z ≡ o → Deals-read xs n r o z
+  unfolding Deals-read
+  deals-none above none out = read-none xs n above (none, out)
 
-    number : r ≡ asked-of-deal fine keys room
-    number = answer-is _ (keys-of b (lent-in b a xs)) r (take room o) last as-put
-
-    keys-size : fine ≡ true → length (keys-of b (lent-in b a xs)) ≡ keys
-    unfolding fine
-    keys-size t = keys-fit b a xs accepted point long good t ∙ sym is
-
-    none-asked : fine ≡ true → keys ≤ 65536 → dealt-output b (lent-in b a xs) ≡ keys-of b (lent-in b a xs)
-    unfolding dealt-output fine
-    none-asked t few =
-        let none : lent-refusal b (lent-in b a xs) ≡ 0 = program-asks b a xs accepted point long keys is ∙ rw (t, le-ltb 65536 keys few) in rw none
-
-    whole-put : Put-says (asked-of-deal fine keys room) (keys-of b (lent-in b a xs)) r o (last ++ drop room o)
-    whole-put =
-        put-front _ (keys-of b (lent-in b a xs)) r room o last within (λ z. let w = when-written fine keys room z in omega (arith, keys-size (w .0), w .1)) as-put
-
-    pub dealt-written : r ≡ 0 → Writes (dealt-output b (lent-in b a xs)) keys o (last ++ drop room o)
-    dealt-written z =
-        let none = sym number ∙ z in
-        let w = when-written fine keys room none in
-        let size = keys-size (w .0) in
-        subst (λ (l : List ℕ). Writes l keys o (last ++ drop room o)) (sym (none-asked (w .0) (few-keys keys room (length o) given (w .1))))
-        (writes-all (keys-of b (lent-in b a xs)) keys o (last ++ drop room o) (omega (arith, w .1, within)) (sym size) (put _ (keys-of b (lent-in b a xs)) r o (last ++ drop room o) whole-put none))
-
-    same : (r ≡ 0 → ⊥) → last ++ drop room o ≡ o
-    same some = untouched _ (keys-of b (lent-in b a xs)) r o (last ++ drop room o) whole-put some
-
-    pub dealt-short : (eqb r 9 && leb keys 65536) ≡ true → Writes (dealt-output b (lent-in b a xs)) 0 o (last ++ drop room o)
-    dealt-short t =
-        let nine : r ≡ 9 = eqb-true r 9 (and-left (eqb r 9) (leb keys 65536) t) in
-        let few : keys ≤ 65536 = leb-true keys 65536 (and-right (eqb r 9) (leb keys 65536) t) in
-        let w = when-short fine keys room (sym number ∙ nine) in
-        let size = keys-size (w .0) in
-        let whole : room ≡ length o = given ∙ rw (le-ltb 65536 keys few) in
-        subst (λ (l : List ℕ). Writes l 0 o (last ++ drop room o)) (sym (none-asked (w .0) few))
-        (subst (λ (l : List ℕ). Writes (keys-of b (lent-in b a xs)) 0 o l) (sym (same (λ z. omega arith))) (writes-none (keys-of b (lent-in b a xs)) o (omega (arith, w .1))))
-
-    pub dealt-refused : (answer : ℕ) (z : List ℕ) → (r ≡ 0 → ⊥) → (eqb r 9 && leb keys 65536) ≡ false → Writes (refused-line r) answer (last ++ drop room o) z →
-        Writes (dealt-output b (lent-in b a xs)) answer o z
-    unfolding dealt-output fine
-    dealt-refused answer z some other w =
-        let refusal : lent-refusal b (lent-in b a xs) ≡ r = program-asks b a xs accepted point long keys is ∙ sym (when-refused fine keys room r number some other) in
-        rw (refusal, ne-eqb r 0 some) (subst (λ (l : List ℕ). Writes (refused-line r) answer l z) (same some) w)
+  -- no more is written than there is room for
+  pub deals-read-within : Deals-read xs n r o z → r ≤ length z
+  unfolding Deals-read
+  deals-read-within says = read-either xs n says (λ w. writes-within (dealing-output (take n xs)) r o z w) (λ w. omega (arith, w .0))

@@ -1,2 +1,3 @@
 -- The laws that the dealing program's proofs cite. Assumes nothing.
-mod Dealings
+mod Lengths
+pub mod Dealings

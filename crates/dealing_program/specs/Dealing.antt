@@ -1,5 +1,6 @@
 -- The dealing program as a function from the input's bytes to the output's: document 01's "Two programs", whose sentences are quoted.
 -- Assumes nothing: these are definitions.
+use mathlib.Core.Path.{_≡_}
 use mathlib.Core.Bool.{Bool, _&&_, _||_, not, cond}
 use mathlib.Core.List.{List}
 use Prim.Native.Nat.{ℕ, _+_, _*_, _-_}
@@ -9,7 +10,7 @@ use Rattle.grid.specs.Grid.{Board, board, board-refusal, columns, grid-rows, ro
 use Rattle.keys.specs.Keys.{number-in, Lent, key-long, keys-from}
 use Rattle.entry.specs.Entry.{or-else, lent, rule, Deal-says}
 use Rattle.text.specs.Text.{refused-line}
-use Rattle.program_output.specs.Output.{most-bytes}
+use Rattle.program_output.specs.Output.{most-bytes, read-bytes, Writes, Of-read, Enough, Fits}
 
 -- THE DEALING PROGRAM "reads p, N, μ, w, point in the groups above, then value, arrays, seeds, words"
 pub record Input : Type 0 where
@@ -70,6 +71,14 @@ unfoldable pub dealing-output : (input : List ℕ) → List ℕ
 dealing-output bs =
     let i = input-in bs in
     cond (eqb (dealing-refusal bs) 0) (keys-of (i .board) (lent-in (i .board) (i .point) (i .rest))) (refused-line (dealing-refusal bs))
+
+-- WHAT MAKES ITS BUFFERS RIGHT: 65,537 bytes of an input are enough, and what it writes fits into 65,536
+unfoldable pub Dealing-whole : Type 0
+Dealing-whole = Enough read-bytes dealing-output × Fits most-bytes dealing-output
+
+-- of a buffer that an input was read into: the output of that input is written; with a count above the buffer's length, nothing is
+unfoldable pub Deals-read : (buffer : List ℕ) → (count r : ℕ) → (out out-now : List ℕ) → Type 0
+Deals-read xs n r o z = Of-read xs n (λ bs. Writes (dealing-output bs) r o z) ((r ≡ 0) × (z ≡ o))
 
 -- its parts: what it writes where the five numbers and the lengths are in order, and what Deal says of lent parts
 unfoldable pub dealt-output : Board → Lent → List ℕ

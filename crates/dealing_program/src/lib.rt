@@ -1,5 +1,6 @@
-// The dealing program as one function on slices: five numbers and the lent parts in, the keys out, which stand at the front of the lent
-// output. It requires nothing. Its meaning is specs/Dealing.antt. Assumes nothing.
+// The dealing program as one function: five numbers and the lent parts in, the keys out, which stand at the front of the lent output. The
+// output has room for the most bytes by its type, so that Deal's 9 is the program's. It requires nothing. Its meaning is
+// specs/Dealing.antt. Assumes nothing.
 use grid::board::Board;
 use key_check::check::REFUSED_NUMBER;
 use key_lengths::key_length;
@@ -9,18 +10,15 @@ use nosingginger::deal;
 use nosingginger::refusals::ACCEPTED;
 use nosingginger::refusals::REFUSED_LENT;
 use nosingginger::refusals::REFUSED_POINT;
-use nosingginger::refusals::REFUSED_ROOM;
 use program_output::MOST_BYTES;
 use program_output::put_refusal;
 ghost use mathlib.Core.Path.{_≡_};
-ghost use mathlib.Core.Bool.{cond, _&&_};
 ghost use Prim.Native.Nat.{_*_, _≤_, _<_};
-ghost use lib.Dec.{ltb, leb, eqb};
 ghost use lib.ListN.{length};
 ghost use Rattle.grid.specs.Grid.{board-refusal, columns, grid-rows};
 ghost use Rattle.grid.specs.Code.{board-of};
 ghost use Rattle.program_output.specs.Output.{Writes, most-bytes};
-ghost use Rattle.dealing_program.specs.Dealing.{asked-bytes, asked-refusal, lent-in, Deals, dealt-output, dealing-output};
+ghost use Rattle.dealing_program.specs.Dealing.{asked-bytes, asked-refusal, lent-in, Deals, dealt-output, dealing-output, Deals-read, Dealing-whole};
 
 // Columns of all grid rows together.
 fn all_columns(board: Board) -> usize
@@ -83,47 +81,27 @@ fn deal_parts(board: Board, point: u32, rest: &[u8], keys: &mut [u8]) -> u32
     )
 }
 
-// The room that is given to so many bytes of keys: none where they are more than the most.
-fn room_for(long: usize, room: usize) -> usize
-    ensures { λ r. ⌜ r ≡ cond (ltb most-bytes long) 0 room ⌝ }
-{
-    if MOST_BYTES < long { 0 } else { room }
-}
-
-// Whether Deal's 9 says only that the lent output is too short: the keys are not more than the most.
-fn no_room(refusal: u32, long: usize) -> bool
-    ensures { λ r. ⌜ r ≡ (eqb refusal 9 && leb long most-bytes) ⌝ }
-{
-    if refusal == REFUSED_ROOM {
-        long <= MOST_BYTES
-    } else {
-        false
-    }
-}
-
 // 8, 9, or the keys.
 fn put_dealt(board: Board, point: u32, rest: &[u8], output: &mut [u8]) -> usize
     requires { ⌜ (board-refusal (board-of board) ≡ 0) × (point < board .positions) × (length (now rest) ≡ asked-bytes (board-of board)) ⌝ }
+    requires { ⌜ length (now output) ≡ most-bytes ⌝ }
     ensures { λ r. ⌜ Writes (dealt-output (board-of board) (lent-in (board-of board) point (now (rest .entry)))) r (now (output .entry)) (now (output .exit)) ⌝ }
 {
     let long = board.players as usize * key_length(board);
-    let room = room_for(long, output.len());
-    let refusal = deal_parts(board, point, rest, &mut output[..room]);
+    let refusal = deal_parts(board, point, rest, output);
     if refusal == ACCEPTED {
         return long;
-    }
-    if no_room(refusal, long) {
-        return 0;
     }
     put_refusal(refusal, output)
 }
 
 // THE DEALING PROGRAM: 10, 1 to 5, 6, 7, 8, 9; or the keys. Its five numbers are read as those of a header are, which are five too.
-pub fn dealing_program(input: &[u8], output: &mut [u8]) -> usize
+pub fn dealing_program(input: &[u8], output: &mut [u8; 65536]) -> usize
     ensures { λ r. ⌜ Writes (dealing-output (now (input .entry))) r (now (output .entry)) (now (output .exit)) ⌝ }
 {
+    let out: &mut [u8] = output;
     let Heading::Whole(numbers, reader) = header_in(input) else {
-        return put_refusal(REFUSED_NUMBER, output);
+        return put_refusal(REFUSED_NUMBER, out);
     };
     let four = numbers.board;
     let board = Board {
@@ -136,7 +114,23 @@ pub fn dealing_program(input: &[u8], output: &mut [u8]) -> usize
     let at = reader.at;
     let refusal = asked_refusal(board, point, input.len(), input.len() - at);
     if refusal != ACCEPTED {
-        return put_refusal(refusal, output);
+        return put_refusal(refusal, out);
     }
-    put_dealt(board, point, &input[at..], output)
+    put_dealt(board, point, &input[at..], out)
 }
+
+// The dealing program on a buffer, of which so many bytes were read; 0, with nothing written, where the buffer has not so many.
+pub fn run(input: &[u8; 65537], count: usize, output: &mut [u8; 65536]) -> usize
+    ensures { λ r. ⌜ Deals-read (now (input .entry)) count r (now (output .entry)) (now (output .exit)) ⌝ }
+{
+    let read: &[u8] = input;
+    if read.len() < count {
+        return 0;
+    }
+    dealing_program(&read[..count], output)
+}
+
+// The theorem that the buffers of `run` rest on, asked for by a contract.
+pub fn kept()
+    ensures { λ r. ⌜ Dealing-whole ⌝ }
+{}

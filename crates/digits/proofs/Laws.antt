@@ -57,6 +57,25 @@ pub decimal-few : (v : ℕ) → length (decimal v) ≤ 10
 unfolding decimal
 decimal-few v = digits-few 10 v
 
+-- a number below a power of ten has no more digits than that many
+digits-below : (j k v : ℕ) → v < power j → length (digits k v) ≤ suc j
+unfolding digits power
+digits-below j zero v h = omega arith
+digits-below zero (suc k) v h = rw (lt-ltb v 10 h) (omega arith)
+digits-below (suc j) (suc k) v h = either (ltb v 10) (digits-below j k (v / 10) (omega arith))
+  where
+    either : (t : Bool) → length (digits k (v / 10)) ≤ suc j → length (cond t ((48 + v) ∷ []) (digits k (v / 10) ++ ((48 + v % 10) ∷ []))) ≤ suc (suc j)
+    either true h = omega arith
+    either false h = omega (arith, length-append (digits k (v / 10)) ((48 + v % 10) ∷ []))
+
+five-digits : power 4 ≡ 100000
+unfolding power
+five-digits = refl
+
+pub decimal-five : (v : ℕ) → v < 100000 → length (decimal v) ≤ 5
+unfolding decimal
+decimal-five v h = digits-below 4 10 v (omega (arith, five-digits))
+
 -- HEXADECIMAL
 
 -- the two digits of a byte

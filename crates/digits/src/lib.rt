@@ -7,17 +7,6 @@ ghost use Rattle.writer.specs.Written.{Wrote};
 ghost use Rattle.digits.specs.Digits.{decimal, hex-digit, hex};
 use writer::put_byte;
 
-// How many digits a number has: ten at most.
-pub fn decimal_length(number: u32) -> usize
-    ensures { λ r. ⌜ (r ≡ length (decimal number)) × (r ≤ 10) ⌝ }
-{
-    if number < 10 {
-        1
-    } else {
-        decimal_length(number / 10) + 1
-    }
-}
-
 // Writes a number in decimal, unpadded.
 pub fn put_decimal(out: &mut [u8], at: usize, number: u32) -> usize
     requires { ⌜ at + length (decimal number) ≤ length (now out) ⌝ }

@@ -11,7 +11,7 @@ use Rattle.chacha20.specs.Expand.{expand}
 use Rattle.chacha20.proofs.Stream.{word-expand}
 use Rattle.grid.specs.Width.{width, sensor-position}
 use Rattle.grid.proofs.Refusing.{In, Out}
-use Rattle.entry.specs.Entry.{or-else, in-front, Put-says, says, Expand-says, Width-says, Sensor-says}
+use Rattle.entry.specs.Entry.{or-else, in-front, Put-says, says, Expand-says, width-refusal, Width-says, Sensor-says}
 use Rattle.entry.specs.declared.Answer.{Answer}
 
 -- WHAT A CALL SAYS
@@ -83,15 +83,15 @@ module _ (seed o : List ℕ) where
 
 module _ (p n : ℕ) (r : Answer) where
   pub width-refused-1 : Out 2 p 6 → r .refusal ≡ 1 → r .value ≡ 0 → Width-says p n r
-  unfolding Width-says
+  unfolding Width-says width-refusal
   width-refused-1 h e f = rw h (says-refused 1 _ r (λ z. omega arith) e f)
 
   pub width-refused-2 : In 2 p 6 → Out 1 n 65536 → r .refusal ≡ 2 → r .value ≡ 0 → Width-says p n r
-  unfolding Width-says
+  unfolding Width-says width-refusal
   width-refused-2 h k e f = rw (h, k) (says-refused 2 _ r (λ z. omega arith) e f)
 
   pub width-given : In 2 p 6 → In 1 n 65536 → r .refusal ≡ 0 → r .value ≡ width p n → Width-says p n r
-  unfolding Width-says
+  unfolding Width-says width-refusal
   width-given h k e f = rw (h, k) (says-value 0 _ r refl e f)
 
 module _ (s : ℕ) (r : Answer) where

@@ -1,5 +1,5 @@
--- What the operations answer and leave behind: document 03's Entry, word for word. Each is an equation that fixes the number, the value
--- and every lent byte, refused calls too. Join keys has its own file; Check key and Held seed answer as the crate keys says. Assumes nothing: these are definitions.
+-- What the operations answer and leave behind: document 03's Entry, word for word but for a name, `width-refusal`. Each is an equation that
+-- fixes the number, the value and every lent byte, refused calls too. Join keys has its own file; Check key and Held seed answer as the crate keys says. Assumes nothing: these are definitions.
 use mathlib.Core.Path.{_≡_}
 use mathlib.Core.Bool.{_&&_, not, cond}
 use mathlib.Core.List.{List, _++_}
@@ -84,9 +84,11 @@ Expand-says bs r o z =
     Put-says (cond (not (eqb (length bs) 32)) 7 (cond (ltb 4096 (length o)) 16 0)) (expand (length o) bs) r o z
 
 -- CHOOSE WIDTH: 1, 2
+unfoldable pub width-refusal : (p n : ℕ) → ℕ
+width-refusal p n = cond (not (leb 2 p && leb p 6)) 1 (cond (not (leb 1 n && leb n 65536)) 2 0)
+
 unfoldable pub Width-says : (p n : ℕ) → Answer → Type 0
-Width-says p n r =
-    says (cond (not (leb 2 p && leb p 6)) 1 (cond (not (leb 1 n && leb n 65536)) 2 0)) (width p n) r
+Width-says p n r = says (width-refusal p n) (width p n) r
 
 -- SENSOR POSITION: 17
 unfoldable pub Sensor-says : (s : ℕ) → Answer → Type 0

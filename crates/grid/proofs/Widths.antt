@@ -1,18 +1,19 @@
--- The search for a width: its turns, one at a time; that it gives the least width whose square is large enough, or 256; and that the
--- numbers it compares fit 32 bits.
--- Assumes nothing.
+-- The search for a width: its turns, one at a time; that it gives the least width whose square is large enough, or 256, and no board is
+-- refused at it; and that the numbers it compares fit 32 bits. Assumes nothing.
 use mathlib.Core.Path.{_≡_, refl, sym, _∙_, subst, subst⁻¹}
 use mathlib.Core.Bool.{Bool, true, false}
 use mathlib.Core.Logic.{_⊎_, inl, inr, ⊎-elim}
-use Prim.Native.Nat.{ℕ, zero, suc, _+_, _*_, _-_, _^_, _≤_, _<_}
-use native.Mathlib.Nat.{mul-le-mul, mul-pos, zero-add}
+use Prim.Native.Nat.{ℕ, zero, suc, _+_, _*_, _-_, _/_, _^_, _≤_, _<_}
+use native.Mathlib.Nat.{mul-le-mul, mul-le-mul-left, mul-le-mul-right, mul-pos, zero-add, div-lt-iff-lt-mul}
 use native.Mathlib.Numerals.{add-one}
 use native.Mathlib.Omega.{arith}
 use lib.Dec.{leb}
 use lib.Pow.{pow-pos, pow-mono}
 use borrow.Author.Tests.{leb-true, leb-false, le-leb, lt-leb}
-use Rattle.grid.specs.Width.{width, width-from}
+use Rattle.grid.specs.Grid.{Board, board, grid-rows, board-refusal}
+use Rattle.grid.specs.Width.{width, width-from, Least-width, Width-is-least, Width-serves}
 use Rattle.grid.proofs.Counting.{one-left}
+use Rattle.grid.proofs.Facts.{board-accepted}
 
 -- ONE TURN
 
@@ -81,16 +82,81 @@ enough-from (suc left) wide squares =
     rw (width-on left wide squares small, ← along) (enough-from left (suc wide) squares))
     (large-or-small squares wide)
 
-pub width-least : (p n : ℕ) → 1 ≤ n → (m : ℕ) → m < width p n → m * m < n * 2 ^ (p - 1)
-unfolding width
-width-least p n some =
-    let squares = mul-pos some (pow-pos (p - 1)) in
-    least-from 255 1 (n * 2 ^ (p - 1))
-    (λ m below. let none : m ≡ 0 = omega arith in subst⁻¹ (λ (k : ℕ). k * k < n * 2 ^ (p - 1)) none squares)
+most-from : (left wide squares : ℕ) → width-from left wide squares ≤ left + wide
+most-from zero wide squares = rw (width-end wide squares) (omega arith)
+most-from (suc left) wide squares =
+    ⊎-elim (λ large. rw (width-here (suc left) wide squares large) (omega arith))
+    (λ small. rw (width-on left wide squares small) (omega (arith, most-from left (suc wide) squares)))
+    (large-or-small squares wide)
 
-pub width-enough : (p n : ℕ) → (n * 2 ^ (p - 1) ≤ width p n * width p n) ⊎ (width p n ≡ 256)
+least-width : (p n : ℕ) → 1 ≤ n → Least-width p n (width p n)
 unfolding width
-width-enough p n = enough-from 255 1 (n * 2 ^ (p - 1))
+least-width p n some =
+    let squares = mul-pos some (pow-pos (p - 1)) in
+    record {
+      least = least-from 255 1 (n * 2 ^ (p - 1)) (λ m below. let none : m ≡ 0 = omega arith in subst⁻¹ (λ (k : ℕ). k * k < n * 2 ^ (p - 1)) none squares);
+      enough = enough-from 255 1 (n * 2 ^ (p - 1));
+      most = most-from 255 1 (n * 2 ^ (p - 1));
+    }
+
+-- of two such widths none is the smaller one
+not-smaller : (p n m k : ℕ) → Least-width p n m → Least-width p n k → m < k → ⊥
+not-smaller p n m k first second below =
+    let small = second .least m below in
+    ⊎-elim (λ large. omega arith) (λ last. omega (arith, second .most)) (first .enough)
+
+only-width : (p n m k : ℕ) → Least-width p n m → Least-width p n k → m ≡ k
+only-width p n m k first second =
+    let up = not-smaller p n m k first second in
+    let down = not-smaller p n k m second first in
+    go (leb m k) refl (leb k m) refl up down
+  where
+    go : (s : Bool) → leb m k ≡ s → (t : Bool) → leb k m ≡ t → (m < k → ⊥) → (k < m → ⊥) → m ≡ k
+    go false e t f up down = absurd (down (leb-false m k e))
+    go true e false f up down = absurd (up (leb-false k m f))
+    go true e true f up down = let below = leb-true m k e in let above = leb-true k m f in omega arith
+
+pub width-is-least : Width-is-least
+unfolding Width-is-least
+width-is-least p n some = (least-width p n some, λ m other. only-width p n m (width p n) other (least-width p n some))
+
+-- two columns at least, so that a width whose square is enough leaves few grid rows
+rows-few : (n m columns : ℕ) → 1 ≤ m → m ≤ 256 → 2 ≤ columns → n ≤ 65536 → (n * columns ≤ m * m) ⊎ (m ≡ 256) → (n + m - 1) / m ≤ 256
+rows-few n m columns some most two few enough = go (div-lt-iff-lt-mul some .1 (⊎-elim square widest enough))
+  where
+    square : n * columns ≤ m * m → n + m - 1 < 257 * m
+    square large =
+        let twice = mul-le-mul-left n two in
+        let wide = mul-le-mul-right m most in omega arith
+
+    widest : m ≡ 256 → n + m - 1 < 257 * m
+    widest is = omega arith
+
+    go : (n + m - 1) / m < 257 → (n + m - 1) / m ≤ 256
+    go below = omega arith
+
+pub width-serves : Width-serves
+unfolding Width-serves grid-rows board
+width-serves p n w two six some few one sixteen =
+    let least = least-width p n some in
+    let positive = width-positive n (width p n) (2 ^ (p - 1)) (mul-pos some (pow-pos (p - 1))) (least .enough) in
+    let exponent : 1 ≤ p - 1 = omega arith in
+    board-accepted (board p n (width p n) w)
+    (record {
+      players-least = two;
+      players-most = six;
+      positions-least = some;
+      positions-most = few;
+      wide-least = positive;
+      wide-most = least .most;
+      value-least = one;
+      value-most = sixteen;
+      rows-most = rows-few n (width p n) (2 ^ (p - 1)) positive (least .most) (pow-mono exponent) few (least .enough);
+    })
+  where
+    width-positive : (n m columns : ℕ) → 0 < n * columns → (n * columns ≤ m * m) ⊎ (m ≡ 256) → 1 ≤ m
+    width-positive n zero columns pos enough = ⊎-elim (λ large. omega arith) (λ last. omega arith) enough
+    width-positive n (suc m) columns pos enough = omega arith
 
 -- WHAT THE CODE COMPUTES fits 32 bits
 

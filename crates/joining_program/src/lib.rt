@@ -1,5 +1,6 @@
-// The joining program as one function on slices: p keys in, the text of the joined table out, which stands at the front of the lent output.
-// It requires nothing. Its meaning is specs/Joining.antt. Assumes nothing.
+// The joining program as one function: p keys in, the text of the joined table out, which stands at the front of the lent output. The table
+// that it joins in has the most bytes by its type, so that Join keys' 9 is the program's, and the output has room for every text. It requires
+// nothing. Its meaning is specs/Joining.antt. Assumes nothing.
 use key_check::check::REFUSED_LENGTH;
 use key_check::check::REFUSED_NUMBER;
 use key_check::check::REFUSED_PLAYER;
@@ -11,14 +12,13 @@ use program_output::MOST_BYTES;
 use program_output::put_refusal;
 ghost use mathlib.Core.Path.{_≡_};
 ghost use Prim.Native.Nat.{_*_, _≤_};
-ghost use lib.Dec.{leb};
 ghost use lib.ListN.{length, take};
 ghost use Rattle.keys.specs.Keys.{head-in};
 ghost use Rattle.text.specs.Text.{table-text};
 ghost use Rattle.entry.specs.Entry.{or-else, Put-says};
 ghost use Rattle.join_calls.specs.JoinKeys.{head-refusal};
-ghost use Rattle.program_output.specs.Output.{Writes, most-bytes};
-ghost use Rattle.joining_program.specs.Joining.{Joins, joining-refusal, joined};
+ghost use Rattle.program_output.specs.Output.{most-bytes, text-bytes, Writes};
+ghost use Rattle.joining_program.specs.Joining.{joining-refusal, joined, Joins, Joins-read, Joining-whole};
 
 // The number of an input that is longer than any: the first key's own, 10, 1 to 5 and 11, or else 12.
 fn long_refusal(input: &[u8]) -> u32
@@ -40,36 +40,19 @@ fn long_refusal(input: &[u8]) -> u32
 
 // Joins the keys of an input into the front of a table, or answers the number that refuses.
 fn join_input(input: &[u8], table: &mut [u8]) -> u32
-    requires { ⌜ most-bytes ≤ length (now table) ⌝ }
+    requires { ⌜ length (now table) ≡ most-bytes ⌝ }
     ensures { λ r. ⌜ Put-says (joining-refusal (now (input .entry))) (joined (now (input .entry))) r (now (table .entry)) (now (table .exit)) ⌝ }
 {
     if MOST_BYTES < input.len() {
         return long_refusal(input);
     }
-    let most = MOST_BYTES;
-    join_keys(input, &mut table[..most])
-}
-
-// Writes a joined table, where its text has room.
-fn put_text(
-    players: u32,
-    positions: u32,
-    value_bytes: u32,
-    table: &[u8],
-    output: &mut [u8],
-) -> usize
-    requires { ⌜ («value_bytes» ≤ 65536) × (length (now table) ≡ positions * «value_bytes») ⌝ }
-    ensures { λ r. ⌜ Writes (table-text players positions «value_bytes» (now (table .entry))) r (now (output .entry)) (now (output .exit)) ⌝ }
-{
-    if output.len() < text::table_length(players, positions, value_bytes, table) {
-        return 0;
-    }
-    text::put_table(output, 0, players, positions, value_bytes, table)
+    join_keys(input, table)
 }
 
 // Writes the text of the table that an accepted input's keys were joined into.
 fn put_joined(input: &[u8], table: &[u8], output: &mut [u8]) -> usize
-    requires { ⌜ (joining-refusal (now input) ≡ 0) × (most-bytes ≤ length (now table)) ⌝ }
+    requires { ⌜ joining-refusal (now input) ≡ 0 ⌝ }
+    requires { ⌜ (length (now table) ≡ most-bytes) × (text-bytes ≤ length (now output)) ⌝ }
     ensures { λ r. ⌜ Writes (table-text (head-in (now (input .entry)) .board .p) (head-in (now (input .entry)) .board .n) (head-in (now (input .entry)) .board .w) (take (head-in (now (input .entry)) .board .n * head-in (now (input .entry)) .board .w) (now (table .entry)))) r (now (output .entry)) (now (output .exit)) ⌝ }
 {
     let Heading::Whole(header, _) = header_in(input) else {
@@ -77,25 +60,46 @@ fn put_joined(input: &[u8], table: &[u8], output: &mut [u8]) -> usize
     };
     let board = header.board;
     let end = (board.positions * board.value_bytes) as usize;
-    put_text(
+    text::put_table(
+        output,
+        0,
         board.players,
         board.positions,
         board.value_bytes,
         &table[..end],
-        output,
     )
 }
 
 // THE JOINING PROGRAM: 10, 1 to 5, 11, 12, each key's own in turn, 9; or the joined table's text. The table is lent to join in.
-pub fn joining_program(input: &[u8], table: &mut [u8], output: &mut [u8]) -> usize
-    ensures { λ r. ⌜ Joins (leb most-bytes (length (now (table .entry)))) (now (input .entry)) r (now (table .entry)) (now (table .exit)) (now (output .entry)) (now (output .exit)) ⌝ }
+pub fn joining_program(input: &[u8], table: &mut [u8; 65536], output: &mut [u8; 600000]) -> usize
+    ensures { λ r. ⌜ Joins (now (input .entry)) r (now (table .entry)) (now (table .exit)) (now (output .entry)) (now (output .exit)) ⌝ }
 {
-    if table.len() < MOST_BYTES {
+    let joined: &mut [u8] = table;
+    let out: &mut [u8] = output;
+    let refusal = join_input(input, joined);
+    if refusal != ACCEPTED {
+        return put_refusal(refusal, out);
+    }
+    put_joined(input, joined, out)
+}
+
+// The joining program on a buffer, of which so many bytes were read; 0, with nothing changed, where the buffer has not so many.
+pub fn run(
+    input: &[u8; 65537],
+    count: usize,
+    table: &mut [u8; 65536],
+    output: &mut [u8; 600000],
+) -> usize
+    ensures { λ r. ⌜ Joins-read (now (input .entry)) count r (now (table .entry)) (now (table .exit)) (now (output .entry)) (now (output .exit)) ⌝ }
+{
+    let read: &[u8] = input;
+    if read.len() < count {
         return 0;
     }
-    let refusal = join_input(input, table);
-    if refusal != ACCEPTED {
-        return put_refusal(refusal, output);
-    }
-    put_joined(input, table, output)
+    joining_program(&read[..count], table, output)
 }
+
+// The theorem that the buffers of `run` rest on, asked for by a contract.
+pub fn kept()
+    ensures { λ r. ⌜ Joining-whole ⌝ }
+{}

@@ -38,9 +38,8 @@ square-row : (b : Board) (a : ℕ) → a < b .n → a / b .wide ≤ grid-rows b
 unfolding grid-rows
 square-row b a h = quotient-mono a (b .n + b .wide - 1) (b .wide) (omega arith)
 
--- document 03's opening is the opening of Keys.antt, for every list of numbers and every rule
-pub same-opening : (f : List ℕ → List ℕ) (ks : List ℕ) (a : ℕ) → a < head-in ks .board .n → Document03.opened f ks a ≡ opened f ks a
-unfolding Document03.opened opened opened-part
+pub same-opening : Document03.Same-opening
+unfolding Document03.Same-opening Document03.opened opened opened-part
 same-opening f ks a h =
     let b = head-in ks .board in
     same-from (columns b) 0 0 b f (head-in ks .rest) (a / b .wide) (a % b .wide) (zeros (b .w)) (square-row b a h)
@@ -59,7 +58,7 @@ unfolding Document03.Tables-join Promise.Tables-join
 tables-join b f l a lent rule h = Proved.tables-join b f l a lent (rule-good b f rule) h
 
 pub keys-open : Document03.Keys-open
-unfolding Document03.Keys-open Promise.Keys-open Promise.Reads-parts
+unfolding Document03.Keys-open Document03.Same-opening Promise.Keys-open Promise.Reads-parts
 keys-open b f l i a lent rule h p =
     let good = rule-good b f rule in
     let opens = Proved.keys-open b f l i a lent good h p in
@@ -67,7 +66,7 @@ keys-open b f l i a lent rule h p =
     (opens .0, opens .1, same-opening f (key b f l i) a (rw board p) ∙ opens .2)
 
 pub opens-alone : Document03.Opens-alone
-unfolding Document03.Opens-alone Promise.Opens-alone
+unfolding Document03.Opens-alone Document03.Same-opening Promise.Opens-alone
 opens-alone f ks a r g rule h =
     Proved.opens-alone f ks a r g (rule-good (head-in ks .board) f rule) h ∙ sym (same-opening f ks a h)
 

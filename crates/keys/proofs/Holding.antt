@@ -15,7 +15,7 @@ use Rattle.xor.proofs.Laws.{and-left, and-right}
 use Rattle.grid.specs.Grid.{Board, columns, grid-rows, bit}
 use Rattle.grid.proofs.Facts.{columns-pos}
 use Rattle.keys.specs.Keys.{header, mark-bytes, count-marks, stride, head-in, key-refusal, row-part}
-use Rattle.keys.specs.Held.{marked, seed-from, holds, held-seed, held-seed-place}
+use Rattle.keys.specs.Held.{marked, seed-from, holds, held-seed, held-seed-place, Place-holds}
 use Rattle.keys.proofs.Numbers.{header-again}
 use Rattle.keys.proofs.Accepted.{Key-in, key-in}
 use Rattle.keys.proofs.Opening.{tests-at}
@@ -140,3 +140,9 @@ module _ (ks : List ℕ) (g j : ℕ) where
   pub nowhere : holds ks g j ≡ false → 0 ≡ held-seed-place ks g j
   unfolding held-seed-place
   nowhere e = rw e
+
+-- so the place is where the seed stands
+pub place-holds : Place-holds
+unfolding Place-holds
+place-holds ks g j good =
+    record { inside = place-inside ks g j; there = seed-there ks g j good; none = λ e. sym (seed-none ks g j e) }

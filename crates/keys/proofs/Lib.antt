@@ -1,6 +1,8 @@
--- The laws and theorems of keys: lists, numbers in groups, marks and their counts, parts, opening, and the promises. Assumes nothing.
+-- The laws and theorems of keys: lists, numbers in groups, headers of a list that is cut, marks and their
+-- counts, parts, opening, and the promises. Assumes nothing.
 pub mod Lists
 pub mod Numbers
+pub mod Cut
 pub mod Marks
 pub mod Counting
 pub mod Parts

@@ -1,19 +1,22 @@
 -- The promises of specs/Promise.antt, each under its statement's name in small letters. Assumes nothing.
 use mathlib.Core.Path.{_≡_, refl, sym, ap, _∙_, subst}
-use mathlib.Core.Bool.{true, cond}
-use mathlib.Core.List.{List, _++_, append-assoc}
+use mathlib.Core.Bool.{Bool, true, false, cond}
+use mathlib.Core.List.{List, [], _∷_, _++_, append-assoc}
 use Prim.Native.Nat.{ℕ, zero, suc, _+_, _*_, _-_, _≤_, _<_}
 use native.Mathlib.Omega.{arith}
 use lib.Dec.{eqb}
+use lib.ListN.{take, drop}
 use borrow.Author.Tests.{eq-eqb, ne-eqb}
 use Rattle.xor.specs.Xor.{zeros, bytes-good}
 use Rattle.xor.proofs.Laws.{Word, word-xors, word-zeros}
-use Rattle.grid.specs.Grid.{Board, share, joined-from}
+use Rattle.grid.specs.Grid.{Board, columns, grid-rows, bit, Dealing, share, joined-from, Held, held, held-rows}
+use Rattle.grid.specs.Hiding.{Same-for-others, Named, Just-one-dealing}
 use Rattle.grid.specs.Joining.{over, Shares-join}
 use Rattle.grid.proofs.Facts.{dealing-accepted}
+use Rattle.grid.proofs.Hiding.{just-one-dealing}
 use Rattle.grid.proofs.Joining.{shares-join}
-use Rattle.keys.specs.Keys.{Lent, dealing, key, keys-from, key-long, key-refusal, head-in, opened, parts-of, parts-in, key-written, share-by-parts, table}
-use Rattle.keys.specs.Promise.{Rule-good, lent-good, dealt-parts, entry, point-table, Header-reads, Reads-parts, Only-writing, Same-parts, Dealt-accepted, Keys-long, Keys-apart, Table-long, Opens-alone, Keys-open, Tables-join, Full-tables-join}
+use Rattle.keys.specs.Keys.{Lent, dealing, key, keys-from, key-long, key-refusal, head-in, opened, parts-of, parts-in, key-written, share-by-parts, table, rows-from, words-from}
+use Rattle.keys.specs.Promise.{Rule-good, lent-good, dealt-parts, entry, point-table, Accepted-is-drawn, rows-of, held-in, Held-is-read, Agree, Same-keys, Same-keys-for-others, Fits-keys, Keys-tell-nothing, Header-reads, Reads-parts, Only-writing, Same-parts, Dealt-accepted, Keys-long, Keys-apart, Table-long, Opens-alone, Keys-open, Tables-join, Full-tables-join}
 use Rattle.keys.proofs.Lists.{in-a-row, row-same, row-word, row-at, row-split, row-xors, row-zeros}
 use Rattle.keys.proofs.Numbers.{header-again}
 use Rattle.keys.proofs.Accepted.{Key-in, key-in, key-accepted, body-in, body-parts, Parts-good, key-again, written-head, written-key, written-long, written-good, written-reads}
@@ -165,10 +168,13 @@ keys-open b f l i a lent rule h p =
     let opens = opens-by-parts f (key b f l i) a (accepted .0) (accepted .2) (rw board p) in
     (accepted .0, accepted .1, opens ∙ rw (board, dealt-reads b f l i lent rule h) (dealt-share b f l i a (lent-in b l lent) h p))
 
+pub accepted-is-drawn : Accepted-is-drawn
+unfolding Accepted-is-drawn
+accepted-is-drawn b f l lent rule = dealing-accepted b (dealing b f l) (dealing-facts b f l rule (lent-in b l lent))
+
 pub tables-join : Tables-join
-unfolding Tables-join Shares-join dealing
-tables-join b f l a lent rule h =
-    shares-join b (dealing b f l) a (dealing-accepted b (dealing b f l) (dealing-facts b f l rule (lent-in b l lent))) h
+unfolding Tables-join Shares-join Accepted-is-drawn dealing
+tables-join b f l a lent rule h = shares-join b (dealing b f l) a (accepted-is-drawn b f l lent rule) h
 
 -- a value at a point and zeros elsewhere, entry by entry
 point-row : (b : Board) (point : ℕ) (value : List ℕ) → point < b .n →
@@ -192,3 +198,86 @@ full-tables-join b f l lent rule =
     ∙ row-same (b .n) 0 (joined-from (b .p) 0 b (dealing b f l)) (λ a. cond (eqb a (l .point)) (l .value) (zeros (b .w)))
     (λ a p q. tables-join b f l a lent rule (omega arith))
     ∙ point-row b (l .point) (l .value) (lent-in b l lent .point)
+
+-- HIDING, SAID OF KEYS
+
+-- the rows made of seeds are the rows of these seeds
+rows-are : (k : ℕ) (f : List ℕ → List ℕ) (ss : List ℕ) → rows-from k f ss ≡ rows-of f (words-from k 32 ss)
+unfolding rows-from rows-of words-from
+rows-are zero f ss = refl
+rows-are (suc k) f ss = ap (λ (rs : List (List ℕ)). f (take 32 ss) ∷ rs) (rows-are k f (drop 32 ss))
+
+-- and those that a player holds are the rows of the seeds that the player holds
+held-of : (i : ℕ) (f : List ℕ → List ℕ) (cs : List ℕ) (ss : List (List ℕ)) → held-rows i cs (rows-of f ss) ≡ rows-of f (held-rows i cs ss)
+unfolding held-rows rows-of
+held-of i f [] ss = refl
+held-of i f (c ∷ cs) [] = refl
+held-of i f (c ∷ cs) (s ∷ ss) = go (bit c i) (held-of i f cs ss)
+  where
+    go : (t : Bool) → held-rows i cs (rows-of f ss) ≡ rows-of f (held-rows i cs ss) →
+        cond t (f s ∷ held-rows i cs (rows-of f ss)) (held-rows i cs (rows-of f ss)) ≡ rows-of f (cond t (s ∷ held-rows i cs ss) (held-rows i cs ss))
+    go true e = ap (λ (rs : List (List ℕ)). f s ∷ rs) e
+    go false e = e
+
+pub held-is-read : Held-is-read
+unfolding Held-is-read held held-in dealing dealt-parts
+held-is-read b f l i lent rule h =
+    let seeds = words-from (grid-rows b * columns b) 32 (l .seeds) in
+    rw (dealt-reads b f l i lent rule h, rows-are (grid-rows b * columns b) f (l .seeds), held-of i f (l .arrays) seeds)
+
+-- keys that agree are held alike, and keys that are held alike agree
+agree-held : (f : List ℕ → List ℕ) (ks ls : List ℕ) → Agree f ks ls → held-in f ks ≡ held-in f ls
+unfolding held-in
+agree-held f ks ls a = λ t. record { marks = a .marks t; rows = a .rows t; words = a .words t }
+
+held-agree : (f : List ℕ → List ℕ) (ks ls : List ℕ) → held-in f ks ≡ held-in f ls → Agree f ks ls
+unfolding held-in
+held-agree f ks ls e =
+    record { marks = ap (λ (h : Held). h .marks) e; words = ap (λ (h : Held). h .words) e; rows = ap (λ (h : Held). h .rows) e }
+
+pub same-keys : Same-keys
+unfolding Same-keys Held-is-read
+same-keys b f l m i first second rule h =
+    let one = held-is-read b f l i first rule h in
+    let other = held-is-read b f m i second rule h in
+    (λ a. one ∙ agree-held f (key b f l i) (key b f m i) a ∙ sym other, λ e. held-agree f (key b f l i) (key b f m i) (sym one ∙ e ∙ other))
+
+pub same-keys-for-others : Same-keys-for-others
+unfolding Same-keys-for-others Same-keys Same-for-others
+same-keys-for-others b f l m i first second rule =
+    (λ agree k h other. same-keys b f l m k first second rule h .0 (agree k h other), λ same k h other. same-keys b f l m k first second rule h .1 (same k h other))
+
+-- a dealing that looks the same to everybody but one fits their keys, and the other way round
+module _ (b : Board) (f : List ℕ → List ℕ) (l : Lent) (i point : ℕ) (value : List ℕ) (c : ℕ → List ℕ) (lent : lent-good b l ≡ true) (rule : Rule-good b f)
+    (e : Dealing)
+  where
+    fits-keys : Named b i (dealing b f l) point value c e → Fits-keys b f l i point value c e
+    unfolding Same-for-others Held-is-read
+    fits-keys n =
+        record {
+          good = n .good;
+          point-is = n .point-is;
+          value-is = n .value-is;
+          rows-are = n .rows-are;
+          others = λ k h other. sym (n .others k h other) ∙ held-is-read b f l k lent rule h;
+        }
+
+    named-so : Fits-keys b f l i point value c e → Named b i (dealing b f l) point value c e
+    unfolding Same-for-others Held-is-read
+    named-so n =
+        record {
+          good = n .good;
+          point-is = n .point-is;
+          value-is = n .value-is;
+          rows-are = n .rows-are;
+          others = λ k h other. held-is-read b f l k lent rule h ∙ sym (n .others k h other);
+        }
+
+pub keys-tell-nothing : Keys-tell-nothing
+unfolding Keys-tell-nothing Just-one-dealing Accepted-is-drawn
+keys-tell-nothing b f l i point value c lent rule player inside long good chosen =
+    let one = just-one-dealing b i point (dealing b f l) value c (accepted-is-drawn b f l lent rule) player inside long good chosen in (
+      one .0,
+      fits-keys b f l i point value c lent rule (one .0) (one .1),
+      λ other fits. one .2 other (named-so b f l i point value c lent rule other fits),
+    )

@@ -1,6 +1,6 @@
 -- Document 03's own text, word for word, of what Keys.antt and Promise.antt say otherwise: opening, which read the words from the whole
--- body, and `Rule-good`, which asked good rows of every list. proofs/Document03.antt shows that this opening is `opened` of Keys.antt at every
--- square, and proves document 03's statements under its own names. Assumes nothing: these are definitions and statements.
+-- body, and `Rule-good`, which asked good rows of every list. `Same-opening` says that this opening is `opened` of Keys.antt at every square;
+-- then come document 03's statements under its own names. Assumes nothing: these are definitions and statements.
 use mathlib.Core.Path.{_≡_}
 use mathlib.Core.Bool.{true, cond}
 use mathlib.Core.List.{List}
@@ -9,6 +9,7 @@ use lib.Dec.{eqb}
 use lib.ListN.{length, getD, take, drop}
 use Rattle.xor.specs.Xor.{xors, zeros, bytes-good}
 use Rattle.grid.specs.Grid.{Board, columns, grid-rows, row-long, bit, cell, share, joined-from}
+use Rattle.keys.specs.Keys
 use Rattle.keys.specs.Keys.{mark-bytes, stride, row-part, head-in, Lent, dealing, key, key-long, key-refusal, table, parts-in}
 use Rattle.keys.specs.Promise.{lent-good, entry, dealt-parts}
 
@@ -28,6 +29,10 @@ opened f ks a =
     let h = head-in ks in
     let b = h .board in
     opened-from (columns b) 0 0 b f (h .rest) (row-part b (h .rest) (a / b .wide)) (a % b .wide) (zeros (b .w))
+
+-- THE OPENING OF KEYS.ANTT IS THIS ONE, for every list of numbers and every rule, at every square
+unfoldable pub Same-opening : Type 0
+Same-opening = (f : List ℕ → List ℕ) (ks : List ℕ) (a : ℕ) → a < head-in ks .board .n → opened f ks a ≡ Keys.opened f ks a
 
 -- rules that give each seed a row's bytes
 unfoldable pub Rule-good : Board → (List ℕ → List ℕ) → Type 0

@@ -1,11 +1,12 @@
--- What a grid row of a key holds, in document 03's words: marks, and the seeds of marked columns.
--- Assumes nothing: these are definitions.
+-- What a grid row of a key holds, in document 03's words: marks, and the seeds of marked columns; and what is promised of a held seed and of
+-- its place. Assumes nothing: these are definitions and statements.
 use mathlib.Core.Path.{_≡_}
 use mathlib.Core.Bool.{Bool, true, cond, _&&_}
 use mathlib.Core.List.{List, []}
-use Prim.Native.Nat.{ℕ, _+_, _*_, _-_, _/_, _%_, _<_}
+use Prim.Native.Nat.{ℕ, _+_, _*_, _-_, _/_, _%_, _≤_, _<_}
 use lib.Dec.{ltb, eqb}
 use lib.ListN.{length, getD, take, drop}
+use Rattle.xor.specs.Xor.{bytes-good}
 use Rattle.grid.specs.Grid.{Board, columns, grid-rows, bit, column}
 use Rattle.keys.specs.Keys.{Lent, key, header, head-in, mark-bytes, count-marks, spare-from, stride, key-refusal, row-part}
 use Rattle.keys.specs.Promise.{Rule-good, lent-good}
@@ -45,7 +46,17 @@ held-seed-place ks g j =
     let b = h .board in
     cond (holds ks g j) (length (header b (h .player)) + g * stride b + seed-from b (row-part b (h .rest) g) j) 0
 
--- of a dealt key it is the seed lent for that grid row and column, where the column has the player's mark
+-- what stands at a place that is told for a held seed: where it is not 0, the 32 bytes of the held seed, inside the key; where it is 0, none is held
+pub record Held-at (key : List ℕ) (g j place : ℕ) : Type 0 where
+  pub inside : (place ≡ 0 → ⊥) → place + 32 ≤ length key
+  pub there : (place ≡ 0 → ⊥) → take 32 (drop place key) ≡ held-seed key g j
+  pub none : place ≡ 0 → held-seed key g j ≡ []
+
+-- THE PLACE IS WHERE THE SEED STANDS, in bytes of every kind
+unfoldable pub Place-holds : Type 0
+Place-holds = (ks : List ℕ) (g j : ℕ) → bytes-good ks ≡ true → Held-at ks g j (held-seed-place ks g j)
+
+-- OF A DEALT KEY the held seed is the one lent for that grid row and column, where the column has the player's mark
 unfoldable pub Held-as-dealt : Type 0
 Held-as-dealt =
     (b : Board) (f : List ℕ → List ℕ) (l : Lent) (i g j : ℕ) → lent-good b l ≡ true → Rule-good b f → i < b .p → g < grid-rows b → j < columns b →

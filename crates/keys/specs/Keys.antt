@@ -1,7 +1,7 @@
 -- Keys as bytes (document 01, "Bytes of a key", Deal and Check key): numbers in groups, headers, what Deal writes, what Check key refuses,
 -- a key's parts and its full table, and opening a square alone. These are document 03's definitions word for word, but for opening:
 -- document 01 opens from the header and the part that begins at the square's grid row, so `opened` here reads nothing else. Document 03's
--- own text of it stands in Document03.antt, and proofs/Document03.antt shows the two equal. Quotations are document 01's.
+-- own text of it stands in Document03.antt, whose `Same-opening` says that the two are equal. Quotations are document 01's.
 -- Assumes nothing: these are definitions.
 use mathlib.Core.Bool.{Bool, true, false, _&&_, not, cond}
 use mathlib.Core.List.{List, [], _∷_, _++_}

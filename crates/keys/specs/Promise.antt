@@ -4,12 +4,14 @@
 -- Quotations are document 01's. Assumes nothing.
 use mathlib.Core.Path.{_≡_}
 use mathlib.Core.Bool.{Bool, true, _&&_, cond}
-use mathlib.Core.List.{List, _++_}
-use Prim.Native.Nat.{ℕ, suc, _*_, _-_, _<_}
+use mathlib.Core.List.{List, [], _∷_, _++_}
+use mathlib.Core.Logic.{_↔_}
+use Prim.Native.Nat.{ℕ, suc, _*_, _-_, _/_, _<_}
 use lib.Dec.{eqb}
 use lib.ListN.{length, take, drop}
 use Rattle.xor.specs.Xor.{zeros, bytes-good}
-use Rattle.grid.specs.Grid.{Board, columns, grid-rows, row-long, share, joined-from, marks-of, held-rows, all-words}
+use Rattle.grid.specs.Grid.{Board, columns, grid-rows, row-long, Dealing, dealing-good, share, joined-from, Held, held, marks-of, held-rows, all-words, unheld}
+use Rattle.grid.specs.Hiding.{Same-for-others, chosen-good-elsewhere}
 use Rattle.grid.specs.Joining.{over}
 use Rattle.keys.specs.Keys.{Lent, dealing, key, keys-from, key-long, deal-refusal, key-refusal, opened, table, head-in, header, Parts, parts-in, key-written, words-from}
 
@@ -114,3 +116,60 @@ unfoldable pub Full-tables-join : Type 0
 Full-tables-join =
     (b : Board) (f : List ℕ → List ℕ) (l : Lent) → lent-good b l ≡ true → Rule-good b f →
     over (b .p) 0 (b .n * b .w) (λ i. table f (key b f l i)) ≡ point-table b (l .point) (l .value)
+
+-- HIDING IS SAID OF KEYS: what is promised of freely drawn dealings (Hiding.antt of the crate grid) is promised of the dealings whose keys Deal writes
+
+-- an accepted dealing is, under every rule, a freely drawn dealing of its board
+unfoldable pub Accepted-is-drawn : Type 0
+Accepted-is-drawn =
+    (b : Board) (f : List ℕ → List ℕ) (l : Lent) → lent-good b l ≡ true → Rule-good b f → dealing-good b (dealing b f l) ≡ true
+
+-- the rows that a rule makes of seeds
+unfoldable pub rows-of : (rule : List ℕ → List ℕ) → (seeds : List (List ℕ)) → List (List ℕ)
+rows-of f [] = []
+rows-of f (seed ∷ seeds) = f seed ∷ rows-of f seeds
+
+-- a key as what its player holds: its marks, its words, and the rule's rows for its seeds
+unfoldable pub held-in : (rule : List ℕ → List ℕ) → (key : List ℕ) → Held
+held-in f ks =
+    record { marks = parts-in ks .marks; rows = rows-of f (parts-in ks .seeds); words = parts-in ks .words }
+
+-- what an accepted dealing gives a player is what that player's dealt key is read as
+unfoldable pub Held-is-read : Type 0
+Held-is-read =
+    (b : Board) (f : List ℕ → List ℕ) (l : Lent) (i : ℕ) → lent-good b l ≡ true → Rule-good b f → i < b .p →
+    held b (dealing b f l) i ≡ held-in f (key b f l i)
+
+-- two keys agree under a rule: in marks, in words and in rows; "rows" is what the rule makes of the held seeds, which may differ
+pub record Agree (rule : List ℕ → List ℕ) (ks ls : List ℕ) : Type 0 where
+  pub marks : parts-in ks .marks ≡ parts-in ls .marks
+  pub words : parts-in ks .words ≡ parts-in ls .words
+  pub rows : rows-of rule (parts-in ks .seeds) ≡ rows-of rule (parts-in ls .seeds)
+
+-- so the keys that a player gets from two accepted dealings of one board agree exactly when the dealings give that player the same
+unfoldable pub Same-keys : Type 0
+Same-keys =
+    (b : Board) (f : List ℕ → List ℕ) (l m : Lent) (i : ℕ) → lent-good b l ≡ true → lent-good b m ≡ true → Rule-good b f → i < b .p →
+    Agree f (key b f l i) (key b f m i) ↔ (held b (dealing b f l) i ≡ held b (dealing b f m) i)
+
+-- and "gives everybody else the same keys" is just that: with one player left out, the keys of everybody else agree
+unfoldable pub Same-keys-for-others : Type 0
+Same-keys-for-others =
+    (b : Board) (f : List ℕ → List ℕ) (l m : Lent) (i : ℕ) → lent-good b l ≡ true → lent-good b m ≡ true → Rule-good b f →
+    ((k : ℕ) → k < b .p → (k ≡ i → ⊥) → Agree f (key b f l k) (key b f m k)) ↔ Same-for-others b i (dealing b f l) (dealing b f m)
+
+-- a freely drawn dealing of a named point, value and unheld rows that gives everybody but player i what that player's dealt key is read as
+pub record Fits-keys (b : Board) (f : List ℕ → List ℕ) (l : Lent) (i point : ℕ) (value : List ℕ) (chosen : ℕ → List ℕ) (e : Dealing) : Type 0 where
+  pub good : dealing-good b e ≡ true
+  pub point-is : e .point ≡ point
+  pub value-is : e .value ≡ value
+  pub rows-are : (g : ℕ) → g < grid-rows b → (g ≡ point / b .wide → ⊥) → unheld b e i g ≡ chosen g
+  pub others : (k : ℕ) → k < b .p → (k ≡ i → ⊥) → held b e k ≡ held-in f (key b f l k)
+
+-- THE KEYS TELL NOTHING: of the keys that an accepted dealing gives all players but one, under every rule, whatever point, value and unheld rows
+-- are named, just one freely drawn dealing has these and fits those keys
+unfoldable pub Keys-tell-nothing : Type 0
+Keys-tell-nothing =
+    (b : Board) (f : List ℕ → List ℕ) (l : Lent) (i point : ℕ) (value : List ℕ) (c : ℕ → List ℕ) → lent-good b l ≡ true → Rule-good b f →
+    i < b .p → point < b .n → length value ≡ b .w → bytes-good value ≡ true → chosen-good-elsewhere b point c →
+    (e : Dealing) × Fits-keys b f l i point value c e × ((other : Dealing) → Fits-keys b f l i point value c other → other ≡ e)

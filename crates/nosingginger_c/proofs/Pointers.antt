@@ -1,17 +1,20 @@
 -- What a C function leaves behind a pointer, from what the operation under it answers. Assumes nothing.
-use mathlib.Core.Path.{_≡_, refl, subst, _∙_}
+use mathlib.Core.Path.{_≡_, refl, subst, subst⁻¹, _∙_}
 use mathlib.Core.Bool.{Bool, true, false, cond}
 use mathlib.Core.List.{List, []}
 use Prim.Native.Nat.{ℕ}
 use borrow.Author.Tests.{ne-eqb}
 use lib.Dec.{eqb}
+use Rattle.xor.specs.Xor.{bytes-good}
+use Rattle.keys.specs.Held.{held-seed-place, Held-at, Place-holds}
+use Rattle.keys.proofs.Holding.{place-holds}
 use Rattle.key_check.specs.Checked.{checked-as, key-checked}
 use Rattle.key_reading.specs.declared.Header.{Header}
 use Rattle.key_check.specs.declared.check.KeyCheck.{KeyCheck}
 use Rattle.key_check.proofs.Says.{refused-says}
 use Rattle.entry.specs.Entry.{says}
 use Rattle.entry.specs.declared.Answer.{Answer}
-use Rattle.nosingginger_c.specs.C.{Through, Value-put, Check-says}
+use Rattle.nosingginger_c.specs.C.{Through, Value-put, Check-says, Held-says}
 
 pub value-kept : (n v o : ℕ) → (n ≡ 0 → ⊥) → Value-put n v n o o
 unfolding Value-put
@@ -42,3 +45,9 @@ pub check-accepted : (ks o z : List ℕ) (h : Header) → checked-as (KeyCheck.A
     → z ≡ checked-as (KeyCheck.Accepted h) .numbers → Check-says ks 0 o z
 unfolding Check-says checked-as
 check-accepted ks o z h e f = rw f (e, refl)
+
+-- the place that the operation tells, and what stands there
+pub held-told : (ks : List ℕ) (g j r : ℕ) → bytes-good ks ≡ true → r ≡ held-seed-place ks g j → Held-says ks g j r
+unfolding Place-holds
+held-told ks g j r good e =
+    record { place-is = e; stands = subst⁻¹ (λ (place : ℕ). Held-at ks g j place) e (place-holds ks g j good) }

@@ -6,6 +6,7 @@ use mathlib.Core.List.{List, []}
 use Prim.Native.Nat.{ℕ}
 use lib.Dec.{eqb}
 use Rattle.entry.specs.declared.Answer.{Answer}
+use Rattle.keys.specs.Held.{held-seed-place, Held-at}
 use Rattle.key_check.specs.Checked.{Checked, key-checked}
 
 -- a number returned and a value behind a pointer, as the operation's one answer; where it is refused the value keeps what stood there
@@ -20,3 +21,8 @@ Value-put n v r o z = (r ≡ n) × (z ≡ cond (eqb n 0) v o)
 unfoldable pub Check-says : (key : List ℕ) → (r : ℕ) → (old new : List ℕ) → Type 0
 Check-says ks r o z =
     (record { refusal = r; numbers = cond (eqb r 0) z [] } ≡ key-checked ks) × (z ≡ cond (eqb r 0) z o)
+
+-- HELD SEED: the place in the caller's key, or 0, and what stands there
+pub record Held-says (key : List ℕ) (g j r : ℕ) : Type 0 where
+  pub place-is : r ≡ held-seed-place key g j
+  pub stands : Held-at key g j r

@@ -1,10 +1,9 @@
 // The C interface: the eleven operations as C functions, each over the call of its name. A slice is a pointer and a length. Results are
 // u32 or u64, and everything else is written through pointers, so that one module serves every machine. Assumes nothing.
 ghost use mathlib.Core.Path.{_≡_};
-ghost use Rattle.keys.specs.Held.{held-seed-place};
 ghost use Rattle.entry.specs.Entry.{Deal-says, Long-says, Open-one-says, Open-all-says, Join-says, Expand-says, Width-says, Sensor-says};
 ghost use Rattle.join_calls.specs.JoinKeys.{Join-keys-says};
-ghost use Rattle.nosingginger_c.specs.C.{Through, Value-put, Check-says};
+ghost use Rattle.nosingginger_c.specs.C.{Through, Value-put, Check-says, Held-says};
 use key_check::held::held_seed_place;
 use nosingginger::Answer;
 use nosingginger::KeyCheck;
@@ -129,7 +128,7 @@ pub extern "C" fn nsg_join_keys(keys: &[u8], out: &mut [u8]) -> u32
 // HELD SEED: where the 32 bytes begin in the caller's key; 0 where there are none.
 #[no_mangle]
 pub extern "C" fn nsg_held_seed(key: &[u8], grid_row: u32, column: u32) -> u64
-    ensures { λ r. ⌜ r ≡ held-seed-place (now (key .entry)) «grid_row» column ⌝ }
+    ensures { λ r. ⌜ Held-says (now (key .entry)) «grid_row» column r ⌝ }
 {
     held_seed_place(key, grid_row, column) as u64
 }

@@ -1,6 +1,7 @@
 // The two programs' functions on the cases of data/, whose inputs and outputs the second implementation made (make-data.sh). A line of
-// the list, data/cases, names a program, the file that it reads and the file that it must write, with one space between them. Each case
-// is compared as this program runs, and a line says whether what is written is equal to the file, byte for byte. Assumes nothing.
+// the list, data/cases, names a program, the file that it reads, how many bytes it reads, which are zeros behind the file's own, and the file
+// that it must write, with one space between them. The function is given all these bytes, above the most too. Each case is compared as this
+// program runs, and a line says whether what is written is equal to the file, byte for byte. Assumes nothing.
 use libc::STDOUT_FILENO;
 ghost use mathlib.Core.Path.{_≡_};
 ghost use Prim.Native.Nat.{_≤_, _<_};
@@ -12,6 +13,16 @@ fn file_buffer() -> [u8; 600001]
     ensures { λ r. ⌜ 600001 ≡ length r ⌝ }
 {
     [0; 600001]
+}
+
+// The most bytes of a case's input.
+const LONGEST: usize = 200000;
+
+// As many zeros as the longest input has bytes.
+fn input_buffer() -> [u8; 200000]
+    ensures { λ r. ⌜ 200000 ≡ length r ⌝ }
+{
+    [0; 200000]
 }
 
 // Whether a file of data/ has these bytes and no others.
@@ -42,23 +53,59 @@ fn joins(input: &[u8], path: &[u8]) -> bool {
     stored(&output[..written], path)
 }
 
-// Whether the program of this name writes the one file when it reads the other. It reads one byte more than the most.
-fn equal(program: &[u8], input_path: &[u8], output_path: &[u8]) -> bool {
+// Whether the program of this name writes a file when it reads these bytes.
+fn writes(program: &[u8], input: &[u8], path: &[u8]) -> bool {
+    if check::same(program, b"deal") {
+        return deals(input, path);
+    }
+    if check::same(program, b"join") {
+        return joins(input, path);
+    }
+    false
+}
+
+// What a decimal digit stands for; more than any length where the byte is none.
+fn digit(byte: u8) -> usize
+    ensures { λ r. ⌜ r ≤ 200001 ⌝ }
+{
+    if byte < b'0' {
+        return LONGEST + 1;
+    }
+    if b'9' < byte {
+        return LONGEST + 1;
+    }
+    (byte - b'0') as usize
+}
+
+// The length that a word says in decimal; 0 where it is none or is above the longest.
+fn length_in(word: &[u8]) -> usize
+    ensures { λ r. ⌜ r ≤ 200000 ⌝ }
+{
+    let mut value: usize = 0;
+    let mut i: usize = 0;
+    while i < word.len() {
+        value = 10 * value + digit(word[i]);
+        if LONGEST < value {
+            return 0;
+        }
+        i += 1;
+    }
+    value
+}
+
+// Whether the program of this name writes the one file when it reads so many bytes, the other file's and then zeros.
+fn equal(program: &[u8], input_path: &[u8], count: usize, output_path: &[u8]) -> bool
+    requires { ⌜ count ≤ 200000 ⌝ }
+{
     let file = os::open_read(input_path);
     if file < 0 {
         os::fail(input_path);
         return false;
     }
-    let mut input = program_output::input_buffer();
-    let length = io::read_full(file, &mut input);
+    let mut input = input_buffer();
+    io::read_full(file, &mut input);
     libc::close(file);
-    if check::same(program, b"deal") {
-        return deals(&input[..length], output_path);
-    }
-    if check::same(program, b"join") {
-        return joins(&input[..length], output_path);
-    }
-    false
+    writes(program, &input[..count], output_path)
 }
 
 // The end of a line: what a comparison has found.
@@ -104,12 +151,15 @@ fn run_line(list: &[u8], at: usize) -> usize
     let program_end = word_end(list, at);
     let input = next_word(list, program_end);
     let input_end = word_end(list, input);
-    let output = next_word(list, input_end);
+    let length = next_word(list, input_end);
+    let length_end = word_end(list, length);
+    let output = next_word(list, length_end);
     let output_end = word_end(list, output);
-    io::write_all(STDOUT_FILENO, &list[at..input_end]);
+    io::write_all(STDOUT_FILENO, &list[at..length_end]);
     found(equal(
         &list[at..program_end],
         &list[input..input_end],
+        length_in(&list[length..length_end]),
         &list[output..output_end],
     ));
     output_end + 1

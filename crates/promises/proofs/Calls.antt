@@ -13,23 +13,24 @@ use Rattle.xor.specs.Xor.{bytes-good}
 use Rattle.xor.proofs.Laws.{length-xors, word-zeros}
 use Rattle.grid.specs.Grid.{board}
 use Rattle.keys.specs.Keys.{key, key-refusal, head-in}
-use Rattle.keys.specs.Promise.{entry, Dealt-accepted}
-use Rattle.key_check.specs.Checked.{head-numbers, key-checked}
+use Rattle.keys.specs.Promise.{entry, Dealt-accepted, Accepted-is-drawn, held-in, Held-is-read}
+use Rattle.key_check.specs.Checked.{head-numbers, checked-as, key-checked}
+use Rattle.key_check.specs.declared.check.KeyCheck.{KeyCheck}
 use Rattle.keys.proofs.Accepted.{passed}
-use Rattle.keys.proofs.Promise.{dealt-accepted, dealt-board, dealt-player}
+use Rattle.keys.proofs.Promise.{dealt-accepted, dealt-board, dealt-player, accepted-is-drawn, held-is-read}
 use Rattle.entry.specs.Entry.{lent, rule, Deal-says, Open-one-says, Open-all-says, joined-shares, shares-refusal, Join-says, Expand-says}
 use Rattle.join_calls.specs.JoinKeys.{Join-keys-says}
-use Rattle.promises.specs.Calls.{key-part, Deals-open, Accepted-opens, Opens-agree, Joins-agree, Untouched, Refused-leaves, Answered-keeps}
+use Rattle.promises.specs.Calls.{key-part, Deals-open, dealing-of, Deals-drawn, Accepted-opens, Opens-agree, Joins-agree, Untouched, Refused-leaves, Answered-keeps}
 use Rattle.entry.proofs.Putting.{room-there, answer-is, put, untouched, take-front, part-front}
 use Rattle.promises.proofs.OpenedKey.{expansion, all-answered, one-answered, all-opened, one-opened, own-table-long, own-entry, own-entry-long, entry-fits}
 use Rattle.promises.proofs.JoinedKeys.{joined-says, part-fine, joined-word, joined-as-opened}
 use Rattle.promises.proofs.DealtCalls.{past, left, part-is, part-opens, parts-join, parts-joined, keys-past, square-joined}
 
--- what Check key says of an accepted key
+-- what Check key answers of an accepted key
 checked-of : (p i n m w : ℕ) (key : List ℕ) → key-refusal key ≡ 0 → head-in key .board ≡ board p n m w → head-in key .player ≡ i →
-    key-checked key ≡ record { refusal = 0; numbers = p ∷ i ∷ n ∷ m ∷ w ∷ [] }
+    (answer : KeyCheck) → checked-as answer ≡ key-checked key → checked-as answer ≡ record { refusal = 0; numbers = p ∷ i ∷ n ∷ m ∷ w ∷ [] }
 unfolding key-checked head-numbers board
-checked-of p i n m w key accepted board-is player-is = rw (accepted, board-is, player-is)
+checked-of p i n m w key accepted board-is player-is answer says = says ∙ rw (accepted, board-is, player-is)
 
 -- THE THIRD DEMAND, OF THE CALLS
 
@@ -59,6 +60,19 @@ deals-open p n m w point value long keys-now d =
       joins = parts-join b l long (d .keys) keys-now t;
       joined = parts-joined b l long (d .keys) keys-now t;
       square = square-joined b l long (d .keys) keys-now t;
+    }
+
+pub deals-drawn : Deals-drawn
+unfolding Deals-drawn dealing-of Accepted-is-drawn Held-is-read board
+deals-drawn p n m w point value long keys-now d =
+    let b = board p n m w in
+    let l = lent point value (d .arrays) (d .seeds) (d .words) in
+    let t = left p n m w point value long keys-now d in
+    let f : List ℕ → List ℕ = (λ seed. rule b seed) in
+    record {
+      drawn = accepted-is-drawn b f l (t .accepted) (expansion b);
+      held-as-read = λ i h.
+          held-is-read b f l i (t .accepted) (expansion b) h ∙ ap (held-in f) (sym (part-is b l long (d .keys) keys-now t i h));
     }
 
 pub accepted-opens : Accepted-opens

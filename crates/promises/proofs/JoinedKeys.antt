@@ -57,15 +57,15 @@ module _ (bs out out-now : List ℕ) (b : Board) (good : bytes-good bs ≡ true)
   abbrev part : (i : ℕ) → List ℕ
   part i = key-part (key-long b) i bs
 
-  -- its parts are accepted keys of one board
-  pub part-fine : (i : ℕ) → i < b .p → (key-refusal (part i) ≡ 0) × (head-in (part i) .board ≡ b)
+  -- its parts are accepted keys of one board, each its place's player's
+  pub part-fine : (i : ℕ) → i < b .p → (key-refusal (part i) ≡ 0) × (head-in (part i) .board ≡ b) × (head-in (part i) .player ≡ i)
   unfolding key-part
   part-fine i h =
       let fits : suc i * key-long b ≤ b .p * key-long b = mul-le-mul-right (key-long b) h in
       let fine =
       place-accepted b (0 + i) (part i) (places-each (b .p) 0 b bs (t .places) i h)
       (length-take-le (key-long b) (drop (i * key-long b) bs) (rw length-drop (omega (arith, t .whole)))) in
-      (fine .0, fine .1)
+      (fine .0, fine .1, fine .2 ∙ omega arith)
 
   part-good : (i : ℕ) → bytes-good (part i) ≡ true
   unfolding key-part

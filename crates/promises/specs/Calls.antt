@@ -9,12 +9,13 @@ use Prim.Native.Nat.{ℕ, _*_, _≤_, _<_}
 use lib.Dec.{eqb}
 use lib.ListN.{length, take, drop}
 use Rattle.xor.specs.Xor.{zeros, bytes-good}
-use Rattle.grid.specs.Grid.{Board, board}
+use Rattle.grid.specs.Grid.{Board, board, Dealing, dealing-good, held}
 use Rattle.grid.specs.Joining.{over}
-use Rattle.keys.specs.Keys.{key-refusal, head-in, key-long}
-use Rattle.key_check.specs.Checked.{key-checked}
-use Rattle.keys.specs.Promise.{entry, point-table}
-use Rattle.entry.specs.Entry.{Deal-says, Long-says, Open-one-says, Open-all-says, Join-says, Expand-says, in-front}
+use Rattle.keys.specs.Keys.{dealing, key-refusal, head-in, key-long}
+use Rattle.key_check.specs.Checked.{checked-as, key-checked}
+use Rattle.key_check.specs.declared.check.KeyCheck.{KeyCheck}
+use Rattle.keys.specs.Promise.{entry, point-table, held-in}
+use Rattle.entry.specs.Entry.{lent, rule, Deal-says, Long-says, Open-one-says, Open-all-says, Join-says, Expand-says, in-front}
 use Rattle.join_calls.specs.JoinKeys.{Join-keys-says}
 use Rattle.entry.specs.declared.Answer.{Answer}
 
@@ -34,10 +35,11 @@ pub record Dealt (p n m w point : ℕ) (value : List ℕ) (long : Answer) (keys-
 unfoldable pub key-part : (K i : ℕ) → (keys : List ℕ) → List ℕ
 key-part K i keys = take K (drop (i * K) keys)
 
--- bytes that Check key accepts: it answers the header numbers p, i, N, μ and w
+-- bytes that Check key accepts: whatever it answers as its contract says, that is 0 and the header numbers p, i, N, μ and w
 pub record Accepted-as (p i n m w : ℕ) (key : List ℕ) : Type 0 where
   pub bytes : bytes-good key ≡ true
-  pub checked : key-checked key ≡ record { refusal = 0; numbers = p ∷ i ∷ n ∷ m ∷ w ∷ [] }
+  pub checked : (answer : KeyCheck) → checked-as answer ≡ key-checked key →
+      checked-as answer ≡ record { refusal = 0; numbers = p ∷ i ∷ n ∷ m ∷ w ∷ [] }
   pub accepted : key-refusal key ≡ 0
   pub board-read : head-in key .board ≡ board p n m w
   pub player-read : head-in key .player ≡ i
@@ -68,6 +70,23 @@ Deals-open =
     (p n m w point : ℕ) (value : List ℕ) (long : Answer) (keys-now : List ℕ) →
     Dealt p n m w point value long keys-now → Keys-good p n m w point value long keys-now
 
+-- the dealing of a deal: the lent bytes, with the rows that expansion makes of the seeds
+unfoldable pub dealing-of : (p n m w point : ℕ) → (value arrays seeds words : List ℕ) → Dealing
+dealing-of p n m w a v cs ss ws =
+    dealing (board p n m w) (λ seed. rule (board p n m w) seed) (lent a v cs ss ws)
+
+-- a freely drawn dealing of the board that gives each player what the player's part of Deal's bytes is read as
+pub record Drawn-and-held (p n m w : ℕ) (d : Dealing) (long : Answer) (keys-now : List ℕ) : Type 0 where
+  pub drawn : dealing-good (board p n m w) d ≡ true
+  pub held-as-read : (i : ℕ) → i < p →
+      held (board p n m w) d i ≡ held-in (λ seed. rule (board p n m w) seed) (key-part (long .value) i keys-now)
+
+-- HIDING, OF THE CALLS: what it says of freely drawn dealings and of what they give a player, it says of every deal that is answered by 0
+unfoldable pub Deals-drawn : Type 0
+Deals-drawn =
+    (p n m w point : ℕ) (value : List ℕ) (long : Answer) (keys-now : List ℕ) (dealt : Dealt p n m w point value long keys-now) →
+    Drawn-and-held p n m w (dealing-of p n m w point value (dealt .arrays) (dealt .seeds) (dealt .words)) long keys-now
+
 -- "any accepted key given to Open all and Open one, where 9 doesn't refuse", is answered by 0 at every square
 unfoldable pub Accepted-opens : Type 0
 Accepted-opens =
@@ -82,10 +101,12 @@ Opens-agree =
     Open-one-says key a 0 one one-now → Open-all-says key 0 all all-now →
     take (head-in key .board .w) one-now ≡ entry (head-in key .board) all-now a
 
--- JOIN KEYS IS OPEN ALL AND XOR: any slice that it answers by 0 is p accepted keys of one board, and what it writes is the XOR of the tables
--- that Open all leaves of each
+-- JOIN KEYS IS OPEN ALL AND XOR: any slice that it answers by 0 is p accepted keys of one board, each its place's player's, and what it
+-- writes is the XOR of the tables that Open all leaves of each
 pub record Joined-as-opened (keys out-now : List ℕ) (b : Board) : Type 0 where
-  pub accepted : (i : ℕ) → i < b .p → (key-refusal (key-part (key-long b) i keys) ≡ 0) × (head-in (key-part (key-long b) i keys) .board ≡ b)
+  pub accepted : (i : ℕ) → i < b .p →
+      (key-refusal (key-part (key-long b) i keys) ≡ 0) × (head-in (key-part (key-long b) i keys) .board ≡ b)
+      × (head-in (key-part (key-long b) i keys) .player ≡ i)
   pub joins : (tables tables-now : ℕ → List ℕ) → ((i : ℕ) → i < b .p → Open-all-says (key-part (key-long b) i keys) 0 (tables i) (tables-now i)) →
       take (b .n * b .w) out-now ≡ over (b .p) 0 (b .n * b .w) (λ i. take (b .n * b .w) (tables-now i))
 

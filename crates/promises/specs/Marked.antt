@@ -6,9 +6,10 @@ use mathlib.Core.Bool.{Bool, true, false, _&&_, cond}
 use mathlib.Core.List.{List, [], _∷_, _++_}
 use Prim.Native.Nat.{ℕ}
 use lib.Dec.{eqb}
-use Rattle.grid.specs.Grid.{Board, board, Dealing, array-good, dealing-good, last-word, share}
+use Rattle.grid.specs.Grid.{Board, board, board-refusal, Dealing, array-good, dealing-good, last-word, share}
 use Rattle.grid.specs.Width.{width}
 use Rattle.keys.specs.Keys.{key-long, mark-bytes, packed}
+use Rattle.entry.specs.Entry.{width-refusal}
 
 -- THE TEST
 
@@ -69,6 +70,13 @@ drawn =
 unfoldable pub shares : (player : ℕ) → List ℕ
 shares i = share two drawn i 0 ++ share two drawn i 1
 
+-- what Choose width and Key length answer: the number that refuses, or 0, and the value
+unfoldable pub width-answer : (p n : ℕ) → List ℕ
+width-answer p n = width-refusal p n ∷ width p n ∷ []
+
+unfoldable pub length-answer : Board → List ℕ
+length-answer b = board-refusal b ∷ key-long b ∷ []
+
 -- THE TABLE
 
 unfoldable pub table : List Line
@@ -85,10 +93,10 @@ table =
     ∷ record { computed = last-word two drawn; written = 0x23 ∷ 0xC1 ∷ [] }
     ∷ record { computed = shares 0; written = 0x10 ∷ 0x20 ∷ [] }
     ∷ record { computed = shares 1; written = 0x10 ∷ 0x85 ∷ [] }
-    ∷ record { computed = width 2 64 ∷ []; written = 12 ∷ [] }
-    ∷ record { computed = width 4 72 ∷ []; written = 24 ∷ [] }
-    ∷ record { computed = width 6 65536 ∷ []; written = 256 ∷ [] }
-    ∷ record { computed = key-long (board 4 72 24 1) ∷ []; written = 584 ∷ [] } ∷ []
+    ∷ record { computed = width-answer 2 64; written = 0 ∷ 12 ∷ [] }
+    ∷ record { computed = width-answer 4 72; written = 0 ∷ 24 ∷ [] }
+    ∷ record { computed = width-answer 6 65536; written = 0 ∷ 256 ∷ [] }
+    ∷ record { computed = length-answer (board 4 72 24 1); written = 0 ∷ 584 ∷ [] } ∷ []
 
 -- THE MARKED DEALS: every line of the table holds
 unfoldable pub Marked-deals : Type 0

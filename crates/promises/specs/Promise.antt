@@ -2,14 +2,17 @@
 -- definitions that it speaks of, and proofs/Promise.antt has the one term of the record. All hold for every number of players, every number
 -- of positions, every grid width and every value width at once. Quotations are document 01's. Assumes nothing.
 use Rattle.grid.specs.Grid.{Board}
+pub use Rattle.chacha20.specs.Rfc8439.{Rows-by-rfc8439}
 unfoldable pub use Rattle.grid.specs.Arrays.{Each-column-once, Half-is-marked, Half-of-each-row, One-row-unheld}
 unfoldable pub use Rattle.grid.specs.Joining.{Shares-join, Words-join, Last-word-completes, Piece-cells}
 unfoldable pub use Rattle.grid.specs.Hiding.{Tells-nothing, Just-one-dealing, No-other-dealing}
 unfoldable pub use Rattle.grid.specs.Moving.{Moved-is-named, Moving-finds}
-unfoldable pub use Rattle.keys.specs.Promise.{Rule-good, Header-reads, Reads-parts, Only-writing, Same-parts, Dealt-accepted, Keys-long, Keys-apart, Table-long, Opens-alone, Keys-open, Tables-join, Full-tables-join}
+unfoldable pub use Rattle.grid.specs.Width.{Width-is-least, Width-serves}
+unfoldable pub use Rattle.keys.specs.Promise.{Rule-good, Header-reads, Reads-parts, Only-writing, Same-parts, Dealt-accepted, Keys-long, Keys-apart, Table-long, Opens-alone, Keys-open, Tables-join, Full-tables-join, Accepted-is-drawn, Held-is-read, Same-keys, Same-keys-for-others, Keys-tell-nothing}
+unfoldable pub use Rattle.keys.specs.Held.{Place-holds, Held-as-dealt}
 use Rattle.keys.specs.Document03
 use Rattle.entry.specs.Entry.{rule}
-unfoldable pub use Rattle.promises.specs.Calls.{Deals-open, Accepted-opens, Opens-agree, Joins-agree}
+unfoldable pub use Rattle.promises.specs.Calls.{Deals-open, Deals-drawn, Accepted-opens, Opens-agree, Joins-agree}
 pub use Rattle.promises.specs.Calls.{Refused-leaves, Answered-keeps}
 unfoldable pub use Rattle.promises.specs.Marked.{Marked-deals}
 
@@ -30,6 +33,11 @@ pub record Promises : Type 0 where
   pub dealt-accepted : Dealt-accepted
   pub keys-long : Keys-long
   pub keys-apart : Keys-apart
+  -- the place told for a held seed is where its 32 bytes stand in the key, or 0 where none is held; a dealt key holds the seeds that were lent
+  pub place-holds : Place-holds
+  pub held-as-dealt : Held-as-dealt
+  -- rows are ChaCha20's by RFC 8439
+  pub rows-by-rfc8439 : Rows-by-rfc8439
   -- THE THIRD DEMAND, first part: every player's table, joined, shows the piece and nothing else
   -- under every row rule, all players' shares XOR to the value on the point's square and to zero on every other
   pub tables-join : Tables-join
@@ -55,9 +63,19 @@ pub record Promises : Type 0 where
   pub no-other-dealing : No-other-dealing
   -- "each grid row has exactly one row not so held"
   pub one-row-unheld : One-row-unheld
+  -- and that is said of the keys that Deal writes: every accepted dealing is a freely drawn one under every rule, what it gives a player is what
+  -- the player's dealt key is read as, with the rule's rows for the seeds, "the same keys" are keys that agree in marks, words and rows, and so
+  -- just one freely drawn dealing has what is named and fits the keys that Deal wrote to everybody else
+  pub accepted-is-drawn : Accepted-is-drawn
+  pub held-is-read : Held-is-read
+  pub same-keys : Same-keys
+  pub same-keys-for-others : Same-keys-for-others
+  pub keys-tell-nothing : Keys-tell-nothing
   -- OF THE CALLS THEMSELVES, with expansion as the rule, from their contracts alone
   -- "Deal's p × K bytes, cut after every K, each key given to Open all"
   pub deals-open : Deals-open
+  -- the dealing that hiding speaks of is the one whose keys Deal wrote
+  pub deals-drawn : Deals-drawn
   -- "and any accepted key given to Open all and Open one, where 9 doesn't refuse"
   pub accepted-opens : Accepted-opens
   pub opens-agree : Opens-agree
@@ -77,9 +95,13 @@ pub record Promises : Type 0 where
   pub words-join : Words-join
   pub last-word-completes : Last-word-completes
   pub piece-cells : Piece-cells
+  -- CHOOSE WIDTH: "the least μ with μ × μ ≥ N × J, or 256", and no board is refused at it
+  pub width-is-least : Width-is-least
+  pub width-serves : Width-serves
   -- THE MARKED DEALS, all † lines in one table
   pub marked-deals : Marked-deals
-  -- DOCUMENT 03'S OWN STATEMENTS, where those above ask less of a rule or read less of a key
+  -- DOCUMENT 03'S OWN STATEMENTS, where those above ask less of a rule or read less of a key; its opening is the one above
+  pub document-03-same-opening : Document03.Same-opening
   pub document-03-tables-join : Document03.Tables-join
   pub document-03-keys-open : Document03.Keys-open
   pub document-03-opens-alone : Document03.Opens-alone

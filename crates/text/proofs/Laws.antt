@@ -5,12 +5,12 @@ use Prim.Native.Nat.{ℕ, zero, suc, _+_, _*_, _-_, _≤_, _<_}
 use native.Mathlib.Omega.{arith}
 use native.Mathlib.Nat.{zero-add, zero-mul, suc-mul, mul-le-mul-right}
 use native.Mathlib.Numerals.{add-one}
-use lib.ListN.{length, take, drop, length-append, length-drop}
-use lib.Seq.{length-take-le, drop-drop}
+use lib.ListN.{length, take, drop, length-append, length-take}
+use lib.Seq.{drop-drop}
 use Rattle.writer.specs.Written.{Wrote}
 use Rattle.writer.proofs.Laws.{wrote-then, wrote-more}
 use Rattle.digits.specs.Digits.{decimal, hex}
-use Rattle.digits.proofs.Laws.{hex-long}
+use Rattle.digits.proofs.Laws.{decimal-few, decimal-five, hex-long}
 use Rattle.text.specs.Text.{named, refused-line, board-line, position-line, position-lines, table-text, text-refused, text-players, text-squares, text-width, line-feed}
 
 -- four parts, one behind another
@@ -84,10 +84,6 @@ lines-within k n w ts h = omega (arith, lines-next-length k w ts, lines-grow (n 
 pub value-within : (k n w : ℕ) → k < n → k * w + w ≤ n * w
 value-within k n w h = omega (arith, suc-mul k w, mul-le-mul-right {m = suc k} {n = n} w (omega arith))
 
-pub value-long : (k n w : ℕ) (ts : List ℕ) → length ts ≡ n * w → k < n → length (take w (drop (k * w) ts)) ≡ w
-value-long k n w ts long h =
-    length-take-le w (drop (k * w) ts) (rw (length-drop (k * w) ts) (omega (arith, value-within k n w h)))
-
 -- the value as the code cuts it
 pub value-cut : (k w from : ℕ) (ts : List ℕ) → from ≡ k * w → take (from + w - from) (drop from ts) ≡ take w (drop (k * w) ts)
 value-cut k w from ts e =
@@ -107,3 +103,39 @@ lines-turn at k n w value ts within is room p q =
 pub table-text-length : (p n w : ℕ) (ts : List ℕ) → length (table-text p n w ts) ≡ length (board-line p n w) + length (position-lines n 0 w ts)
 unfolding table-text
 table-text-length p n w ts = length-append (board-line p n w) (position-lines n 0 w ts)
+
+-- HOW LONG THEY CAN BE
+
+pub refused-most : (n : ℕ) → length (refused-line n) ≤ 19
+refused-most n = omega (arith, refused-length n, named-length text-refused n, decimal-few n)
+
+board-most : (p n w : ℕ) → length (board-line p n w) ≤ 55
+board-most p n w =
+    omega (
+      arith,
+      board-length p n w,
+      named-length text-players p,
+      named-length text-squares n,
+      named-length text-width w,
+      decimal-few p,
+      decimal-few n,
+      decimal-few w,
+    )
+
+-- a position's number has five digits at most, and each byte of its value two
+lines-most : (k a w : ℕ) (ts : List ℕ) → k + a ≤ 100000 → length (position-lines k a w ts) ≤ 7 * k + 2 * (k * w)
+unfolding position-lines
+lines-most zero a w ts h = omega arith
+lines-most (suc k) a w ts h =
+    omega (
+      arith,
+      length-append (position-line a (take w ts)) (position-lines k (suc a) w (drop w ts)),
+      line-length a (take w ts),
+      decimal-five a (omega arith),
+      length-take w ts,
+      lines-most k (suc a) w (drop w ts) (omega arith),
+      suc-mul k w,
+    )
+
+pub table-most : (p n w : ℕ) (ts : List ℕ) → n ≤ 65536 → length (table-text p n w ts) ≤ 55 + 7 * n + 2 * (n * w)
+table-most p n w ts h = omega (arith, table-text-length p n w ts, board-most p n w, lines-most n 0 w ts (omega arith))

@@ -1,12 +1,10 @@
 // Text as bytes: the line of a refusal and the lines of a joined table. Each writer writes at a place, answers the place behind what it
-// wrote, and leaves every other byte as it was (`Wrote` of the crate writer); how long a text is can be asked before it is written. Their
-// meaning is specs/Text.antt. Assumes nothing.
+// wrote, and leaves every other byte as it was (`Wrote` of the crate writer). Their meaning is specs/Text.antt. Assumes nothing.
 ghost use mathlib.Core.Path.{_≡_};
 ghost use Prim.Native.Nat.{_+_, _*_, _≤_};
 ghost use lib.ListN.{length};
 ghost use Rattle.writer.specs.Written.{Wrote};
 ghost use Rattle.text.specs.Text.{named, refused-line, board-line, position-line, position-lines, table-text};
-use digits::decimal_length;
 use digits::put_decimal;
 use digits::put_hex;
 use writer::put;
@@ -95,41 +93,4 @@ pub fn put_table(
 {
     let next = put_board_line(out, at, players, positions, value_bytes);
     put_position_lines(out, next, positions, value_bytes as usize, table)
-}
-
-// How long the line of a refusal is.
-pub fn refused_line_length(refusal: u32) -> usize
-    ensures { λ r. ⌜ r ≡ length (refused-line refusal) ⌝ }
-{
-    9 + decimal_length(refusal)
-}
-
-// How long the first line of a joined table is.
-fn board_line_length(players: u32, positions: u32, value_bytes: u32) -> usize
-    ensures { λ r. ⌜ (r ≡ length (board-line players positions «value_bytes»)) × (r ≤ 55) ⌝ }
-{
-    25 + decimal_length(players) + decimal_length(positions) + decimal_length(value_bytes)
-}
-
-// How long the lines of all positions of a table are.
-fn position_lines_length(positions: u32, value_bytes: usize, table: &[u8]) -> usize
-    requires { ⌜ («value_bytes» ≤ 65536) × (length (now table) ≡ positions * «value_bytes») ⌝ }
-    ensures { λ r. ⌜ (r ≡ length (position-lines positions 0 «value_bytes» (now (table .entry)))) × (r ≤ 131084 * positions) ⌝ }
-{
-    let mut length: usize = 0;
-    let mut position: u32 = 0;
-    while position < positions {
-        length += decimal_length(position) + 2 * value_bytes + 2;
-        position += 1;
-    }
-    length
-}
-
-// How long the text of a joined table is.
-pub fn table_length(players: u32, positions: u32, value_bytes: u32, table: &[u8]) -> usize
-    requires { ⌜ («value_bytes» ≤ 65536) × (length (now table) ≡ positions * «value_bytes») ⌝ }
-    ensures { λ r. ⌜ r ≡ length (table-text players positions «value_bytes» (now (table .entry))) ⌝ }
-{
-    board_line_length(players, positions, value_bytes)
-        + position_lines_length(positions, value_bytes as usize, table)
 }

@@ -1,91 +1,98 @@
 -- What the witnesses' calls leave, over plain variables: one turn of the loop that joins tables, and what each answer of the two witnesses
 -- means, from the calls' contracts and the promises about them. Assumes nothing.
 use mathlib.Core.Path.{_≡_, refl, sym, ap, _∙_, subst}
-use mathlib.Core.Bool.{Bool, true, false, cond}
+use mathlib.Core.Bool.{Bool, true, false, not, cond}
 use mathlib.Core.List.{List, _++_, append-nil}
-use Prim.Native.Nat.{ℕ, _+_, _*_, _-_, _≤_, _<_}
+use Prim.Native.Nat.{ℕ, suc, _+_, _*_, _-_, _≤_, _<_}
 use native.Mathlib.Nat.{mul-le-mul-left, mul-le-mul-right}
 use native.Mathlib.Numerals.{add-one}
 use native.Mathlib.Omega.{arith}
-use lib.Dec.{ltb, leb, eqb}
-use lib.ListN.{length, take, drop, replicate, length-replicate, drop-of-length-le}
+use lib.Dec.{ltb, eqb}
+use lib.ListN.{length, take, drop, replicate, length-append, length-replicate, take-append-drop, drop-of-length-le}
 use lib.Seq.{take-all, length-take-le}
-use borrow.Author.Tests.{eq-eqb, lt-ltb, le-ltb, lt-leb}
+use borrow.Author.Tests.{lt-ltb, ltb-false, eqb-true, not-false}
 use Rattle.xor.specs.Xor.{xors, zeros, bytes-good}
-use Rattle.xor.proofs.Laws.{Word, good-take, good-drop, length-xors, word-zeros}
+use Rattle.xor.proofs.Laws.{good-take, good-drop, length-xors}
 use Rattle.grid.specs.Grid.{Board, board, board-refusal}
 use Rattle.grid.specs.Joining.{over}
-use Rattle.grid.proofs.Sums.{over-last, over-same, over-word}
-use Rattle.keys.specs.Keys.{key-refusal, head-in, table, opened, deal-refusal, key-long, keys-from}
+use Rattle.grid.proofs.Facts.{board-in}
+use Rattle.grid.proofs.Sums.{over-last, over-same}
+use Rattle.keys.specs.Keys.{Lent, header, key, key-refusal, head-in, table, deal-refusal, key-long, keys-from}
 use Rattle.keys.specs.Promise.{point-table}
-use Rattle.entry.specs.Entry.{or-else, in-front, Put-says, says, lent, rule, key-rule, Deal-says, Long-says, Open-one-says, Open-all-says}
+use Rattle.keys.proofs.Accepted.{passed, refusing}
+use Rattle.keys.proofs.Dealing.{lent-in}
+use Rattle.keys.proofs.Numbers.{one-group}
+use Rattle.entry.specs.Entry.{or-else, in-front, Put-says, lent, rule, key-rule, Deal-says, Long-says, Open-one-says, Open-all-says}
 use Rattle.promises.specs.Calls.{Dealt, key-part, Keys-good, Deals-open, Opens-agree, Past-kept}
 use Rattle.entry.specs.declared.Answer.{Answer}
-use Rattle.witness.specs.Witness.{Opens-each, tables-joined, Shows-the-piece, Both-ways}
-use Rattle.entry.proofs.Answering.{put-refused, put-done}
+use Rattle.witness.specs.Witness.{piece-refusal, Shows-the-piece, Both-ways, keys-lent, table-of, Opens-each, tables-joined, last-table}
+use Rattle.entry.proofs.Answering.{put-number, put-refused, put-done, first-fits, next-fits, in-front-part}
 use Rattle.join_calls.proofs.InTurn.{neither}
-use Rattle.entry.proofs.Putting.{nothing-refuses, room-there, room-enough, answer-is, take-front}
-use Rattle.promises.proofs.OpenedKey.{all-answered, all-opened, one-opened, own-table-word, own-table-long}
-use Rattle.promises.proofs.Calls.{deals-open, opens-agree, answered-keeps}
+use Rattle.entry.proofs.Putting.{answer-is, untouched}
+use Rattle.promises.proofs.OpenedKey.{all-answered, all-opened, one-opened, own-table-long}
+use Rattle.promises.proofs.DealtKeys.{tables-over}
+use Rattle.promises.proofs.DealtCalls.{Left, left, part-is, keys-past}
+use Rattle.promises.proofs.Calls.{deals-open, opens-agree}
 
 -- NUMBERS
-
--- a number that is given in front of other tests is given with them too
-same-front : (first : ℕ) (past short : Bool) (later : ℕ) → (or-else first (cond past 14 (cond short 9 0)) ≡ 0 → ⊥) →
-    or-else first (cond past 14 (cond short 9 0)) ≡ or-else first (cond past 14 (cond short 9 later))
-unfolding or-else
-same-front first past short later h = go (eqb first 0) past short h
-  where
-    go : (t past short : Bool) → (_≡_ {A = ℕ} (cond t (cond past 14 (cond short 9 0)) first) 0 → ⊥) →
-        _≡_ {A = ℕ} (cond t (cond past 14 (cond short 9 0)) first) (cond t (cond past 14 (cond short 9 later)) first)
-    go false past short h = refl
-    go true true short h = refl
-    go true false true h = refl
-    go true false false h = absurd (h refl)
-
-answer-refused : (refusal : ℕ) (bytes : List ℕ) (r : ℕ) (out : List ℕ) → r ≡ refusal → (r ≡ 0 → ⊥) → Put-says refusal bytes r out out
-answer-refused n bytes r out e refused = put-refused n bytes r out out (λ z. refused (e ∙ z)) e refl
 
 -- two numbers of 32 bits have a product of 64
 pub product-fits : (a b : ℕ) → a < 4294967296 → b < 4294967296 → a * b < 18446744073709551616
 product-fits a b h k =
     let most : a ≤ 4294967295 = omega arith in omega (arith, mul-le-mul-right b most)
 
+-- what is asked behind a number counts where that is 0
+same-behind : (first next later : ℕ) → (first ≡ 0 → next ≡ later) → or-else first next ≡ or-else first later
+unfolding or-else
+same-behind first next later same = go (eqb first 0) refl
+  where
+    go : (t : Bool) → eqb first 0 ≡ t → cond t next first ≡ cond t later first
+    go true e = same (eqb-true first 0 e)
+    go false e = refl
+
 -- BOTH WAYS
 
-module _ (key : List ℕ) (a : ℕ) (one one-now : List ℕ) where
-  pub one-refused : (all-room r : ℕ) (all-now : List ℕ) → Open-one-says key a r one one-now → (r ≡ 0 → ⊥) → Both-ways key a (length one) all-room r one-now all-now
-  unfolding Both-ways Open-one-says
-  one-refused all-room r all-now h refused =
-      let n = head-in key .board .n in
-      let w = head-in key .board .w in
-      let e = answer-is _ (opened (λ seed. key-rule key seed) key a) r one one-now h in
-      (e ∙ same-front (key-refusal key) (leb n a) (ltb (length one) w) (cond (ltb all-room (n * w)) 9 0) (λ z. refused (e ∙ z)), λ z. absurd (refused z))
+-- Open one was asked for a square, which is the one that is meant
+module _ (key : List ℕ) (asked : ℕ) (one one-now : List ℕ) (r : ℕ) (says : Open-one-says key asked r one one-now) (a : ℕ) (same : asked ≡ a) where
+  abbrev room-of : (all : List ℕ) → ℕ
+  room-of all = cond (ltb (length all) (head-in key .board .n * head-in key .board .w)) 9 0
 
-  pub both-opened : (r s : ℕ) (all all-now : List ℕ) → bytes-good key ≡ true → Open-one-says key a r one one-now → r ≡ 0 → Open-all-says key s all all-now →
-      Both-ways key a (length one) (length all) s one-now all-now
-  unfolding Both-ways Open-all-says Opens-agree
-  both-opened r s all all-now good says-one z says-all =
-      let n = head-in key .board .n in
-      let w = head-in key .board .w in
+  says-one : Open-one-says key a r one one-now
+  says-one = subst (λ (k : ℕ). Open-one-says key k r one one-now) same says
+
+  pub one-refused : (all : List ℕ) → (r ≡ 0 → ⊥) → Both-ways key a one all r one-now all
+  one-refused all refused =
+      record {
+        agree = λ z. absurd (refused z);
+        first = r;
+        opened-one = says-one;
+        opened-all = put-number _ r _ all (first-fits r (room-of all) refused) refused;
+      }
+
+  pub both-opened : (s : ℕ) (all all-now : List ℕ) → bytes-good key ≡ true → r ≡ 0 → Open-all-says key s all all-now → Both-ways key a one all s one-now all-now
+  unfolding Open-all-says Opens-agree
+  both-opened s all all-now good z says-all =
       let first : Open-one-says key a 0 one one-now = subst (λ (k : ℕ). Open-one-says key a k one one-now) z says-one in
-      let called = one-opened key a one one-now first in (
-        answer-is _ (table (λ seed. key-rule key seed) key) s all all-now says-all ∙ rw (lt-leb n a (called .inside), le-ltb (length one) w (called .room)),
-        λ y. opens-agree key a one one-now all all-now good first (subst (λ (k : ℕ). Open-all-says key k all all-now) y says-all),
-      )
+      let accepted = one-opened key a one one-now first .accepted in
+      let behind = next-fits (key-refusal key) (room-of all) accepted ∙ sym (next-fits r (room-of all) z) in
+      record {
+        agree = λ y. opens-agree key a one one-now all all-now good first (subst (λ (k : ℕ). Open-all-says key k all all-now) y says-all);
+        first = r;
+        opened-one = says-one;
+        opened-all = subst (λ (k : ℕ). Put-says k (table (λ seed. key-rule key seed) key) s all all-now) behind says-all;
+      }
 
 -- JOINING TABLES
 
-abbrev table-of : (K : ℕ) → (keys : List ℕ) → (i : ℕ) → List ℕ
-table-of K keys i = table (λ seed. key-rule (key-part K i keys) seed) (key-part K i keys)
-
+-- before the first key
 pub none-joined : (K n size : ℕ) (keys out : List ℕ) → out ≡ replicate n 0 → n ≡ size → (length out ≡ size) × (out ≡ tables-joined 0 K size keys)
 unfolding tables-joined over zeros
 none-joined K n size keys out e same = (ap length e ∙ length-replicate n 0 ∙ same, e ∙ ap (λ (k : ℕ). replicate k 0) same)
 
 module _ (K players size player : ℕ) (keys : List ℕ) (good : bytes-good keys ≡ true) (each : Opens-each keys K players size) (more : player < players) where
   -- the table that Open all leaves of the next key, where it just fits
-  next-table : (r : ℕ) (out out-now : List ℕ) → length out ≡ size → Open-all-says (key-part K player keys) r out out-now → (out-now ≡ table-of K keys player) × (length out-now ≡ size)
+  next-table : (r : ℕ) (out out-now : List ℕ) → length out ≡ size → Open-all-says (key-part K player keys) r out out-now →
+      (out-now ≡ table-of K keys player) × (length out-now ≡ size)
   unfolding key-part in-front
   next-table r out out-now long says =
       let key = key-part K player keys in
@@ -99,149 +106,197 @@ module _ (K players size player : ℕ) (keys : List ℕ) (good : bytes-good keys
       (now, ap length now ∙ whole)
 
   -- one turn
-  pub turn : (r : ℕ) (out out-now joined joined-now : List ℕ) → length out ≡ size → length joined ≡ size →
+  pub turn : (r : ℕ) (out out-now tables joined joined-now : List ℕ) → length out ≡ size → length joined ≡ size →
       Open-all-says (take (player * K + K - player * K) (drop (player * K) keys)) r out out-now →
       joined ≡ tables-joined player K size keys → joined-now ≡ xors joined (take size out-now) →
-      (length out-now ≡ size) × (length joined-now ≡ size) × (joined-now ≡ tables-joined (player + 1) K size keys)
-  unfolding tables-joined key-part
-  turn r out out-now joined joined-now long joined-long says so-far now =
+      (joined-now ≡ tables-joined (player + 1) K size keys) × (out-now ≡ last-table (player + 1) K keys tables)
+      × (length out-now ≡ size) × (length joined-now ≡ size)
+  unfolding tables-joined last-table key-part
+  turn r out out-now tables joined joined-now long joined-long says so-far now =
       let cut : player * K + K - player * K ≡ K = omega arith in
       let next = next-table r out out-now long (subst (λ (k : ℕ). Open-all-says (take k (drop (player * K) keys)) r out out-now) cut says) in
       let whole : take size out-now ≡ table-of K keys player = take-all size out-now (omega (arith, next .1)) ∙ next .0 in (
+        now ∙ rw (whole, so-far, add-one player) (sym (over-last player 0 size player (λ i. table-of K keys i) (omega arith))),
+        rw (add-one player) (next .0),
         next .1,
         ap length now ∙ length-xors joined (take size out-now) (joined-long ∙ sym (ap length whole ∙ sym (ap length (next .0)) ∙ next .1)) ∙ joined-long,
-        now ∙ rw (whole, so-far, add-one player) (sym (over-last player 0 size player (λ i. table-of K keys i) (omega arith))),
       )
+
+-- ROOM FOR THE KEYS
+
+-- the keys of an accepted dealing have a byte at least
+keys-some : (b : Board) (l : Lent) → deal-refusal b l ≡ 0 → 0 < b .p * key-long b
+unfolding deal-refusal key-long header
+keys-some b l none =
+    let named = passed (not (eqb (board-refusal b) 0)) (board-refusal b) _ (refusing (board-refusal b)) none in
+    let players = board-in b (eqb-true (board-refusal b) 0 (not-false (eqb (board-refusal b) 0) (named .0))) .players-least in
+    let one : 0 < key-long b = rw (one-group 0 (omega arith)) (simp length-append (omega arith)) in
+    omega (arith, players, mul-le-mul-left (b .p) one)
+
+-- so Deal lent none of them answers 9
+none-lent : (named : ℕ) (short : Bool) → 0 < named → _≡_ {A = ℕ} (cond (ltb 0 named) 9 0) (cond short 9 9)
+none-lent named true some = rw (lt-ltb 0 named some)
+none-lent named false some = rw (lt-ltb 0 named some)
+
+-- and Deal's 9 is the 9 of all three outputs
+room-in-turn : (keys named : ℕ) (table joined : Bool) → 0 < named →
+    _≡_ {A = ℕ} (cond (ltb (cond table 0 (cond joined 0 keys)) named) 9 0) (cond (ltb keys named) 9 (cond table 9 (cond joined 9 0)))
+room-in-turn keys named true joined some = none-lent named (ltb keys named) some
+room-in-turn keys named false true some = none-lent named (ltb keys named) some
+room-in-turn keys named false false some = refl
+
+lent-most : (table joined : Bool) (keys : ℕ) → cond table 0 (cond joined 0 keys) ≤ keys
+lent-most true joined keys = omega arith
+lent-most false true keys = omega arith
+lent-most false false keys = omega arith
+
+pub lent-fits : (keys table joined size room : ℕ) → room ≡ keys-lent keys table joined size → room ≤ keys
+unfolding keys-lent
+lent-fits keys table joined size room e = rw e (lent-most (ltb table size) (ltb joined size) keys)
 
 -- SHOWING THE PIECE
 
-at-most : (t : Bool) (v : ℕ) → cond t v 0 ≤ v
-at-most true v = omega arith
-at-most false v = omega arith
+-- Deal as it was asked: lent bytes, a part of the keys, and what it left there
+pub record Asked (p n m w point : ℕ) (value arrays seeds words keys tables joined : List ℕ) (r : ℕ) : Type 0 where
+  pub value-bytes : bytes-good value ≡ true
+  pub seeds-bytes : bytes-good seeds ≡ true
+  pub words-bytes : bytes-good words ≡ true
+  pub room : ℕ
+  pub given : room ≡ keys-lent (length keys) (length tables) (length joined) (n * w)
+  pub part : List ℕ
+  pub says : Deal-says p n m w point value arrays seeds words r (take room keys) part
 
-module _ (p n m w point : ℕ) (value arrays seeds words out out-now : List ℕ) where
-  abbrev asked : ℕ
-  asked = deal-refusal (board p n m w) (lent point value arrays seeds words)
+module _ {p n m w point : ℕ} {value arrays seeds words keys tables joined : List ℕ} {r : ℕ}
+    (asked : Asked p n m w point value arrays seeds words keys tables joined r)
+  where
+    abbrev on : Board
+    on = board p n m w
 
-  abbrev named : ℕ
-  named = p * key-long (board p n m w)
+    abbrev l : Lent
+    l = lent point value arrays seeds words
 
-  dealt-numbers : Deal-says p n m w point value arrays seeds words 0 out out-now → (asked ≡ 0) × (named ≤ length out)
-  unfolding Deal-says
-  dealt-numbers h =
-      let last : ℕ = cond (ltb (length out) named) 9 0 in
-      let both = neither asked last (sym (answer-is _ (keys-from p 0 (board p n m w) (λ seed. rule (board p n m w) seed) (lent point value arrays seeds words)) 0 out out-now h)) in
-      (both .0, room-there (length out) named (both .1))
+    abbrev keys-now : List ℕ
+    keys-now = asked .part ++ drop (asked .room) keys
 
-  pub deal-refused : (r table-room : ℕ) (joined : List ℕ) → Deal-says p n m w point value arrays seeds words r out out-now → (r ≡ 0 → ⊥) →
-      Shows-the-piece p n m w point value arrays seeds words (length out) table-room r joined joined
-  unfolding Shows-the-piece Deal-says
-  deal-refused r table-room joined h refused =
-      let e = answer-is _ (keys-from p 0 (board p n m w) (λ seed. rule (board p n m w) seed) (lent point value arrays seeds words)) r out out-now h in
-      answer-refused _ _ r joined
-      (e ∙ same-front asked false (ltb (length out) named) (cond (ltb table-room (n * w)) 9 (cond (ltb (length joined) (n * w)) 9 0)) (λ z. refused (e ∙ z))) refused
+    -- Deal's number is the number of the whole
+    answer : r ≡ piece-refusal on l keys tables joined
+    unfolding Deal-says piece-refusal keys-lent board
+    answer =
+        let room = asked .room in
+        let long = length-take-le room keys (lent-fits (length keys) (length tables) (length joined) (n * w) room (asked .given)) in
+        answer-is _ (keys-from p 0 on (λ seed. rule on seed) l) r (take room keys) (asked .part) (asked .says)
+        ∙ same-behind (deal-refusal on l) _ _ (λ none.
+        ap (λ (k : ℕ). cond (ltb k (p * key-long on)) 9 0) (long ∙ asked .given)
+        ∙ room-in-turn (length keys) (p * key-long on) (ltb (length tables) (n * w)) (ltb (length joined) (n * w)) (keys-some on l none))
 
-  module _ (r : ℕ) (answered : Deal-says p n m w point value arrays seeds words r out out-now) (z : r ≡ 0) (tables joined : List ℕ) where
-    abbrev table-room : ℕ
-    table-room = length tables
+    pub deal-refused : (r ≡ 0 → ⊥) → Shows-the-piece on l keys tables joined r keys-now tables joined
+    unfolding Deal-says
+    deal-refused refused =
+        let none = untouched _ _ r (take (asked .room) keys) (asked .part) (asked .says) refused in
+        let same : keys-now ≡ keys = ap (λ (xs : List ℕ). xs ++ drop (asked .room) keys) none ∙ take-append-drop (asked .room) keys in
+        record {
+          piece = put-number _ r _ joined (sym answer) refused;
+          dealt = put-refused _ _ r keys keys-now (λ z. refused (answer ∙ z)) answer same;
+          last = put-number _ r _ tables (sym answer) refused;
+        }
 
-    h : Deal-says p n m w point value arrays seeds words 0 out out-now
-    h = subst (λ (k : ℕ). Deal-says p n m w point value arrays seeds words k out out-now) z answered
+    module _ (z : r ≡ 0) where
+      none : piece-refusal on l keys tables joined ≡ 0
+      none = sym answer ∙ z
 
-    rest : or-else asked (cond (ltb (length out) named) 9 (cond (ltb table-room (n * w)) 9 (cond (ltb (length joined) (n * w)) 9 0))) ≡ cond (ltb table-room (n * w)) 9 (cond (ltb (length joined) (n * w)) 9 0)
-    unfolding or-else
-    rest = rw (eq-eqb asked 0 (dealt-numbers h .0), le-ltb (length out) named (dealt-numbers h .1))
+      pub rooms : (asked .room ≡ length keys) × (n * w ≤ length tables) × (n * w ≤ length joined)
+      unfolding piece-refusal keys-lent board
+      rooms =
+          let rest = neither (deal-refusal on l) _ none .1 in
+          let of-keys = passed (ltb (length keys) (p * key-long on)) 9 _ (λ t e. omega arith) rest in
+          let of-tables = passed (ltb (length tables) (n * w)) 9 _ (λ t e. omega arith) (of-keys .1) in
+          let of-joined = passed (ltb (length joined) (n * w)) 9 0 (λ t e. omega arith) (of-tables .1) in
+          let lent-all : keys-lent (length keys) (length tables) (length joined) (n * w) ≡ length keys = rw (of-tables .0, of-joined .0) in
+          (asked .given ∙ lent-all, ltb-false (length tables) (n * w) (of-tables .0), ltb-false (length joined) (n * w) (of-joined .0))
 
-    pub table-short : table-room < n * w → Shows-the-piece p n m w point value arrays seeds words (length out) table-room 9 joined joined
-    unfolding Shows-the-piece
-    table-short short = answer-refused _ _ 9 joined (sym (rest ∙ rw (lt-ltb table-room (n * w) short))) (λ z. omega arith)
+      -- Deal was lent all of the keys
+      called : Deal-says p n m w point value arrays seeds words 0 keys keys-now
+      called =
+          let whole = take-all (asked .room) keys (omega (arith, rooms .0)) in
+          let past : keys-now ≡ asked .part = rw (drop-of-length-le keys {i = asked .room} (omega (arith, rooms .0))) (append-nil (asked .part)) in
+          rw past (rw (whole, z) at (asked .says))
 
-    pub joined-short : n * w ≤ table-room → length joined < n * w → Shows-the-piece p n m w point value arrays seeds words (length out) table-room 9 joined joined
-    unfolding Shows-the-piece
-    joined-short room short =
-        answer-refused _ _ 9 joined (sym (rest ∙ rw (le-ltb table-room (n * w) room, lt-ltb (length joined) (n * w) short))) (λ z. omega arith)
+      module _ (long : Answer) (long-says : Long-says p n m w long) where
+        deal : Dealt p n m w point value long keys-now
+        deal =
+            record {
+              arrays = arrays;
+              seeds = seeds;
+              words = words;
+              keys = keys;
+              value-bytes = asked .value-bytes;
+              seeds-bytes = asked .seeds-bytes;
+              words-bytes = asked .words-bytes;
+              long-says = long-says;
+              deal-says = called;
+            }
 
-    module _ (long : Answer) (long-says : Long-says p n m w long) (value-bytes : bytes-good value ≡ true) (seeds-bytes : bytes-good seeds ≡ true) (words-bytes : bytes-good words ≡ true) where
-      deal : Dealt p n m w point value long out-now
-      deal =
-          record {
-            arrays = arrays;
-            seeds = seeds;
-            words = words;
-            keys = out;
-            value-bytes = value-bytes;
-            seeds-bytes = seeds-bytes;
-            words-bytes = words-bytes;
-            long-says = long-says;
-            deal-says = h;
-          }
+        promised : Keys-good p n m w point value long keys-now
+        unfolding Deals-open
+        promised = deals-open p n m w point value long keys-now deal
 
-      promised : Keys-good p n m w point value long out-now
-      unfolding Deals-open
-      promised = deals-open p n m w point value long out-now deal
+        dealt-keys : Left on l long keys keys-now
+        unfolding deal
+        dealt-keys = left p n m w point value long keys-now deal
 
-      -- Key length's K is no more than the key's
-      keys-fit : p * long .value ≤ length out-now
-      unfolding Long-says says Past-kept deal
-      keys-fit =
-          let K = key-long (board p n m w) in
-          let same : length out-now ≡ length out = answered-keeps .deal p n m w point value long out-now deal .0 in
-          let given : long .value ≤ K = rw (long-says .1) (at-most (eqb (board-refusal (board p n m w)) 0) K) in
-          omega (arith, same, dealt-numbers h .1, mul-le-mul-left p given)
+        keys-fit : p * long .value ≤ length keys-now
+        unfolding Past-kept board
+        keys-fit =
+            let whole = keys-past on l long keys keys-now dealt-keys .0 in
+            let given : p * long .value ≡ p * key-long on = ap (λ (k : ℕ). p * k) (dealt-keys .long-is) in omega (arith, whole, dealt-keys .room)
 
-      -- so every key opens into a table that just fits
-      pub each-opens : n * w ≤ length tables → n * w ≤ length joined →
-          Opens-each out-now (long .value) p (length (take (n * w) tables)) × (length (take (n * w) joined) ≡ length (take (n * w) tables))
-      unfolding board
-      each-opens room-tables room =
-          let long-tables = length-take-le (n * w) tables room-tables in (
-            (
-              keys-fit,
-              λ i inside.
-                  let key = promised .accepted i inside in
-                  (key .accepted, ap (λ (b : Board). b .n * b .w) (key .board-read) ∙ sym long-tables),
-            ),
-            length-take-le (n * w) joined room ∙ sym long-tables,
-          )
+        -- so every key opens into a table that just fits
+        pub each-opens : (table-long joined-long : ℕ) → table-long ≡ n * w → joined-long ≡ n * w →
+            Opens-each keys-now (long .value) p table-long × (joined-long ≡ table-long)
+        unfolding board
+        each-opens table-long joined-long t j = (
+          (
+            keys-fit,
+            λ i inside.
+                let key = promised .accepted i inside in
+                (key .accepted, ap (λ (b : Board). b .n * b .w) (key .board-read) ∙ sym t),
+          ),
+          j ∙ sym t,
+        )
 
-      -- what Open all writes of each, with room for it just so
-      word : (i : ℕ) → i < p → Word (n * w) (table-of (long .value) out-now i)
-      unfolding board
-      word i inside =
-          let key = promised .accepted i inside in
-          subst (λ (b : Board). Word (b .n * b .w) (table-of (long .value) out-now i)) (key .board-read)
-          (own-table-word (key-part (long .value) i out-now) (key .bytes) (key .accepted))
+        -- a player's own table
+        abbrev own : (i : ℕ) → List ℕ
+        own i = table (λ seed. rule on seed) (key on (λ seed. rule on seed) l i)
 
-      open-says : (i : ℕ) → i < p → Open-all-says (key-part (long .value) i out-now) 0 (zeros (n * w)) (in-front (table-of (long .value) out-now i) (zeros (n * w)))
-      unfolding Open-all-says board
-      open-says i inside =
-          let key = promised .accepted i inside in
-          let room : length (zeros (n * w)) ≡ n * w = word-zeros (n * w) .long in
-          let size : head-in (key-part (long .value) i out-now) .board .n * head-in (key-part (long .value) i out-now) .board .w ≡ n * w = ap (λ (b : Board). b .n * b .w) (key .board-read) in
-          put-done _ (table-of (long .value) out-now i) 0 (zeros (n * w)) _
-          (nothing-refuses (key-refusal (key-part (long .value) i out-now)) _ (key .accepted) (room-enough (length (zeros (n * w))) _ (omega (arith, size)))) refl refl
+        -- is what Open all writes of the key
+        own-table : (i : ℕ) → i < p → table-of (long .value) keys-now i ≡ own i
+        unfolding key-rule board
+        own-table i inside =
+            let k = key-part (long .value) i keys-now in
+            ap (λ (b : Board). table (λ seed. rule b seed) k) (promised .accepted i inside .board-read)
+            ∙ ap (λ (ks : List ℕ). table (λ seed. rule on seed) ks) (part-is on l long keys keys-now dealt-keys i inside)
 
-      -- joins as promised
-      joined-tables : tables-joined p (long .value) (n * w) out-now ≡ point-table (board p n m w) point value
-      unfolding tables-joined
-      joined-tables =
-          over-same p 0 (n * w) (λ i. table-of (long .value) out-now i) (λ i. take (n * w) (in-front (table-of (long .value) out-now i) (zeros (n * w))))
-          (λ i _ inside. let below : i < p = omega arith in sym (take-front (n * w) (table-of (long .value) out-now i) (zeros (n * w)) (word i below .long)))
-          ∙ promised .joins (λ i. zeros (n * w)) (λ i. in-front (table-of (long .value) out-now i) (zeros (n * w))) open-says
+        joined-tables : tables-joined p (long .value) (n * w) keys-now ≡ point-table on point value
+        unfolding tables-joined board lent
+        joined-tables =
+            over-same p 0 (n * w) (λ i. table-of (long .value) keys-now i) (λ i. own i) (λ i _ inside. own-table i (omega arith))
+            ∙ tables-over on l (dealt-keys .accepted)
 
-      joined-long : length (point-table (board p n m w) point value) ≡ n * w
-      unfolding tables-joined
-      joined-long =
-          ap length (sym joined-tables)
-          ∙ over-word p 0 (n * w) (λ i. table-of (long .value) out-now i) (λ i _ inside. let below : i < p = omega arith in word i below) .long
+        last-of : (i : ℕ) (ts : List ℕ) → p ≡ suc i → last-table p (long .value) keys-now ts ≡ own i
+        unfolding last-table
+        last-of i ts e = ap (λ (k : ℕ). last-table k (long .value) keys-now ts) e ∙ own-table i (omega arith)
 
-      -- so the piece is shown
-      pub piece-shown : (front : List ℕ) → n * w ≤ length tables → n * w ≤ length joined →
-          front ≡ tables-joined p (long .value) (length (take (n * w) tables)) out-now →
-          Shows-the-piece p n m w point value arrays seeds words (length out) table-room 0 joined (front ++ drop (n * w) joined)
-      unfolding Shows-the-piece in-front
-      piece-shown front room-tables room now =
-          let shown : front ≡ point-table (board p n m w) point value =
-          now ∙ ap (λ (k : ℕ). tables-joined p (long .value) k out-now) (length-take-le (n * w) tables room-tables) ∙ joined-tables in
-          put-done _ (point-table (board p n m w) point value) 0 joined (front ++ drop (n * w) joined)
-          (rest ∙ rw (le-ltb table-room (n * w) room-tables, le-ltb (length joined) (n * w) room)) refl (rw (shown, joined-long))
+        -- so the piece is shown
+        pub piece-shown : (table-long : ℕ) (back front : List ℕ) → table-long ≡ n * w → length back ≡ n * w → length front ≡ n * w →
+            front ≡ tables-joined p (long .value) table-long keys-now → back ≡ last-table p (long .value) keys-now (take (n * w) tables) →
+            Shows-the-piece on l keys tables joined 0 keys-now (back ++ drop (n * w) tables) (front ++ drop (n * w) joined)
+        unfolding board lent
+        piece-shown table-long back front sized back-long front-long joins leaves =
+            let players = lent-in on l (dealt-keys .accepted) .board .players-least in
+            let piece = joins ∙ ap (λ (k : ℕ). tables-joined p (long .value) k keys-now) sized ∙ joined-tables in
+            record {
+              piece = put-done _ _ 0 joined _ none refl (in-front-part _ front joined (n * w) front-long piece);
+              dealt = put-done _ _ 0 keys keys-now none refl (dealt-keys .now);
+              last = put-done _ _ 0 tables _ none refl
+                  (in-front-part _ back tables (n * w) back-long (leaves ∙ last-of _ (take (n * w) tables) (omega (arith, players))));
+            }

@@ -1,22 +1,43 @@
-// Two functions over the library's public calls alone, whose contracts are promises: `deal_open_join` deals, gives each key to Open all and
-// XORs the tables, and what it leaves is the table with the value at the point and zeros on every other square; `open_both_ways` opens an
-// accepted key by Open one and by Open all, and both give a square the same bytes. Their proofs use the calls' contracts and nothing else
-// of the code. No part of the shipped library. Assumes nothing.
+// Two functions over the library's public calls alone, whose contracts are promises. `deal_open_join` deals, gives each
+// key to Open all and XORs the tables, and what it shows is the table with the value at the point and zeros on every
+// other square; `open_both_ways` opens a square of a key by Open one and the whole key by Open all, and both give the
+// square the same bytes. The contracts say every lent byte afterwards, of refused calls too. The proofs use the calls'
+// contracts and nothing else of their code. No part of the shipped library. Assumes nothing.
 use nosingginger::deal;
 use nosingginger::key_length;
 use nosingginger::open_all;
 use nosingginger::open_one;
-use nosingginger::refusals::REFUSED_ROOM;
 use writer::clear;
 use xor::xor_into;
 ghost use mathlib.Core.Path.{_≡_};
 ghost use lib.ListN.{length};
-ghost use Rattle.witness.specs.Witness.{Opens-each, tables-joined, Shows-the-piece, Both-ways};
+ghost use Rattle.grid.specs.Grid.{board};
+ghost use Rattle.entry.specs.Entry.{lent};
+ghost use Rattle.witness.specs.Witness.{Shows-the-piece, Both-ways};
+ghost use Rattle.witness.specs.Witness.{keys-lent, Opens-each, tables-joined, last-table};
 
-// Fills `joined` with the XOR of the tables of all keys. Each key is opened into `table`, whose bytes afterwards count for nothing.
+// How many bytes of the keys Deal is lent: all, or none where a table has no room. Lent none, Deal answers its own
+// number or 9 and writes nothing.
+fn keys_lent(keys: usize, table: usize, joined: usize, size: usize) -> usize
+    ensures { λ r. ⌜ r ≡ keys-lent keys table joined size ⌝ }
+{
+    if table < size {
+        return 0;
+    }
+    if joined < size {
+        return 0;
+    }
+    keys
+}
+
+// Fills `joined` with the XOR of the tables of all keys. Each key is opened into `table`, where the last one's stays.
 fn join_tables(keys: &[u8], key_bytes: usize, players: usize, table: &mut [u8], joined: &mut [u8])
-    requires { ⌜ Opens-each (now keys) «key_bytes» players (length (now table)) × (length (now joined) ≡ length (now table)) ⌝ }
-    ensures { λ r. ⌜ now (joined .exit) ≡ tables-joined players «key_bytes» (length (now (table .entry))) (now (keys .entry)) ⌝ }
+    requires { ⌜ Opens-each (now keys) «key_bytes» players (length (now table)) ⌝ }
+    requires { ⌜ length (now joined) ≡ length (now table) ⌝ }
+    ensures { λ r. ⌜ now (joined .exit)
+        ≡ tables-joined players «key_bytes» (length (now (table .entry))) (now (keys .entry)) ⌝ }
+    ensures { λ r. ⌜ now (table .exit)
+        ≡ last-table players «key_bytes» (now (keys .entry)) (now (table .entry)) ⌝ }
 {
     clear(joined);
     let size = table.len();
@@ -30,7 +51,7 @@ fn join_tables(keys: &[u8], key_bytes: usize, players: usize, table: &mut [u8], 
     }
 }
 
-// Deals, opens every key and joins the tables, on lent buffers: `keys` and `table` are scratch, `joined` is the result.
+// Deals, opens every key and joins the tables, into three lent outputs: the keys, one table in turn, the tables joined.
 pub fn deal_open_join(
     players: u32,
     positions: u32,
@@ -45,8 +66,13 @@ pub fn deal_open_join(
     table: &mut [u8],
     joined: &mut [u8],
 ) -> u32
-    ensures { λ r. ⌜ Shows-the-piece players positions width «value_bytes» point (now (value .entry)) (now (arrays .entry)) (now (seeds .entry)) (now (words .entry)) (length (now (keys .entry))) (length (now (table .entry))) r (now (joined .entry)) (now (joined .exit)) ⌝ }
+    ensures { λ r. ⌜ Shows-the-piece (board players positions width «value_bytes»)
+        (lent point (now (value .entry)) (now (arrays .entry)) (now (seeds .entry)) (now (words .entry)))
+        (now (keys .entry)) (now (table .entry)) (now (joined .entry)) r
+        (now (keys .exit)) (now (table .exit)) (now (joined .exit)) ⌝ }
 {
+    let size = (positions as usize) * (value_bytes as usize);
+    let room = keys_lent(keys.len(), table.len(), joined.len(), size);
     let refusal = deal(
         players,
         positions,
@@ -57,17 +83,10 @@ pub fn deal_open_join(
         arrays,
         seeds,
         words,
-        keys,
+        &mut keys[..room],
     );
     if refusal != 0 {
         return refusal;
-    }
-    let size = (positions as usize) * (value_bytes as usize);
-    if table.len() < size {
-        return REFUSED_ROOM;
-    }
-    if joined.len() < size {
-        return REFUSED_ROOM;
     }
     let long = key_length(players, positions, width, value_bytes);
     let key_bytes = long.value as usize;
@@ -83,7 +102,8 @@ pub fn deal_open_join(
 
 // Opens one square of a key alone, and then the whole key.
 pub fn open_both_ways(key: &[u8], position: u32, one: &mut [u8], all: &mut [u8]) -> u32
-    ensures { λ r. ⌜ Both-ways (now (key .entry)) position (length (now (one .entry))) (length (now (all .entry))) r (now (one .exit)) (now (all .exit)) ⌝ }
+    ensures { λ r. ⌜ Both-ways (now (key .entry)) position (now (one .entry)) (now (all .entry)) r
+        (now (one .exit)) (now (all .exit)) ⌝ }
 {
     let refusal = open_one(key, position, one);
     if refusal != 0 {

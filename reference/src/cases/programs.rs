@@ -12,8 +12,9 @@ use std::collections::BTreeMap;
 /// p, N, μ and w.
 type Numbers = (u32, u32, u32, u32);
 
-/// The list's file: a line for each case, with a program, the file that it reads and the file
-/// that it writes, one space between them.
+/// The list's file: a line for each case, with a program, the file that it reads, how many bytes
+/// it reads and the file that it writes, one space between them. Where it reads more bytes than
+/// the file has, they are zeros behind it.
 pub const LIST: &str = "cases";
 
 /// The generator's start, fixed for good: the files are the same each time.
@@ -53,6 +54,31 @@ const WRONG_BOARDS: [(u32, &str, Numbers); 9] = [
 /// Where the marks of both grid rows stand in a key of the printed deal.
 const MARKS: [usize; 2] = [5, 38];
 
+/// The other files at a limit, each with what refuses it with one byte more.
+const ONE_MORE: [(Program, u32, &str); 13] = [
+    (Deal, 7, "largest.dealing"),
+    (Join, 12, "largest.keys"),
+    (Deal, 7, "limit.dealing"),
+    (Deal, 10, "above-limit"),
+    (Join, 10, "above-limit"),
+    (Deal, 7, "input-65537.dealing"),
+    (Join, 4, "input-65537.dealing"),
+    (Deal, 7, "output-65538.dealing"),
+    (Deal, 7, "output-65538-arrays-mixed.dealing"),
+    (Join, 12, "input-65538.keys"),
+    (Deal, 2, "input-65538.keys"),
+    (Join, 12, "table-65538.keys"),
+    (Join, 12, "table-65538-no-marks.keys"),
+];
+
+/// Files of 65,536 bytes, each with what refuses it with any more. Cut there, the keys are joined
+/// and the dealing is refused by 9 alone, since none of that length is accepted.
+const WHOLE: [(Program, u32, &str); 2] =
+    [(Join, 12, "limit.keys"), (Deal, 7, "input-65536.dealing")];
+
+/// Lengths above the limit.
+const ABOVE: [usize; 4] = [65_537, 65_538, 131_072, 200_000];
+
 /// All files by their names.
 pub fn files() -> BTreeMap<String, Vec<u8>> {
     let mut maker = Maker {
@@ -63,6 +89,7 @@ pub fn files() -> BTreeMap<String, Vec<u8>> {
     maker.accepted();
     maker.printed();
     maker.limits();
+    maker.longer();
     let list = maker.list.clone().into_bytes();
     maker.file(LIST, list);
     maker.files
@@ -89,22 +116,35 @@ impl Maker {
         }
     }
 
-    /// A case: the program reads one file, and what it writes is the other.
-    fn case(&mut self, program: Program, input: &str, output: &str) {
-        let read = &self.files[input];
+    /// A case: the program reads one file, filled up with zeros to this length, and what it
+    /// writes is the other.
+    fn filled(&mut self, program: Program, input: &str, length: usize, output: &str) {
+        let mut read = self.files[input].clone();
+        assert!(read.len() <= length, "{input} is not cut");
+        read.resize(length, 0);
         let (word, written) = match program {
-            Deal => ("deal", dealing_program(read)),
-            Join => ("join", joining_program(read)),
+            Deal => ("deal", dealing_program(&read)),
+            Join => ("join", joining_program(&read)),
         };
         self.file(output, written);
-        self.list.push_str(&format!("{word} {input} {output}\n"));
+        let line = format!("{word} {input} {length} {output}\n");
+        self.list.push_str(&line);
     }
 
-    /// A case of a file that is refused with this number.
-    fn refused(&mut self, program: Program, number: u32, input: &str) {
+    /// A case of a file as it is.
+    fn case(&mut self, program: Program, input: &str, output: &str) {
+        self.filled(program, input, self.files[input].len(), output);
+    }
+
+    /// A case of a file that is refused with this number, with so many zeros behind it.
+    fn refused_with(&mut self, program: Program, number: u32, input: &str, zeros: usize) {
         let output = format!("refused-{number}");
         self.file(&output, refused(number));
-        self.case(program, input, &output);
+        self.filled(program, input, self.files[input].len() + zeros, &output);
+    }
+
+    fn refused(&mut self, program: Program, number: u32, input: &str) {
+        self.refused_with(program, number, input, 0);
     }
 
     /// The same with a file of its own.
@@ -294,6 +334,20 @@ impl Maker {
         let header = in_groups(&[2, 1, 32_769, 256, 2]).len();
         keys[1][header] = 0;
         self.fault(Join, 13, "table-65538-no-marks", keys.concat());
+    }
+
+    /// The files at a limit with more behind them. A program that reads no more than 65,536 bytes
+    /// answers some of these as if they ended there.
+    fn longer(&mut self) {
+        for (program, number, input) in ONE_MORE {
+            self.refused_with(program, number, input, 1);
+        }
+        for (program, number, input) in WHOLE {
+            for length in ABOVE {
+                let zeros = length - self.files[input].len();
+                self.refused_with(program, number, input, zeros);
+            }
+        }
     }
 }
 

@@ -1,16 +1,10 @@
 -- `dealer::main` is safe: no more is written than the output has room for. Assumes nothing.
 use mathlib.Core.Path.{sym}
-use native.Mathlib.Omega.{arith}
 use lib.Seq.{length-take-le}
-use Rattle.program_output.proofs.Writing.{writes-within}
+use Rattle.dealing_program.proofs.Dealings.{deals-read-within}
 use borrow.Author.Needs.{needs}
 use Rattle.dealer.proofs.main.Statement.{statement}
 use Rattle.dealer.proofs.main.Tie as tie
-use Rattle.dealer.proofs.main.Reads as reads
-use Rattle.dealer.proofs.main.Lts as lts
-use Rattle.io.proofs.read_full.Reads as read-full-reads
-use Rattle.io.proofs.write_all.Reads as write-all-reads
-use Rattle.dealing_program.proofs.dealing_program.Reads as dealing-program-reads
 
 input-buffer-requires : tie.Need-input-buffer-requires
 input-buffer-requires c κs = search needs
@@ -24,24 +18,14 @@ read-full-requires c κs = search needs
 large-buffer-requires : tie.Need-large-buffer-requires
 large-buffer-requires c κs = search needs
 
-array-share-prefix-input : tie.Need-array-share-prefix-input
-array-share-prefix-input c = search needs
-
-slice-aggregate-dealing-program : tie.Need-slice-aggregate-dealing-program
-slice-aggregate-dealing-program c = search needs
-
-slice-aggregate-dealing-program-2 : tie.Need-slice-aggregate-dealing-program-2
-slice-aggregate-dealing-program-2 c = search needs
-
-dealing-program-requires : tie.Need-dealing-program-requires
-dealing-program-requires c κs = search needs
+run-requires : tie.Need-run-requires
+run-requires c κs = search needs
 
 array-share-prefix-output : tie.Need-array-share-prefix-output
-array-share-prefix-output c = writes-within _ _ _ _ (c .before .dealing-program .ensures)
+array-share-prefix-output c = deals-read-within _ _ _ _ _ (c .run .ensures)
 
 slice-aggregate-write-all : tie.Need-slice-aggregate-write-all
-slice-aggregate-write-all c =
-    let p = c .before .before .dealing-program in sym (length-take-le (p .result) (p .last .1 .0) (writes-within _ _ _ _ (p .ensures)))
+slice-aggregate-write-all c = sym (length-take-le _ _ (deals-read-within _ _ _ _ _ (c .before .run .ensures)))
 
 write-all-requires : tie.Need-write-all-requires
 write-all-requires c κs = search needs
@@ -57,10 +41,7 @@ main-spec =
     slice-aggregate-read-full
     read-full-requires
     large-buffer-requires
-    array-share-prefix-input
-    slice-aggregate-dealing-program
-    slice-aggregate-dealing-program-2
-    dealing-program-requires
+    run-requires
     array-share-prefix-output
     slice-aggregate-write-all
     write-all-requires

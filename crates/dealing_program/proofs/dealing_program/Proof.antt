@@ -1,6 +1,5 @@
 -- `dealing_program::dealing_program` meets its contract. Assumes nothing.
 use mathlib.Core.Path.{sym, _∙_}
-use Prim.Native.Nat.{_-_}
 use native.Mathlib.Omega.{arith}
 use Rattle.grid.specs.Grid.{board}
 use Rattle.program_output.proofs.Writing.{writes-as, writes-line}
@@ -21,12 +20,10 @@ enum-told c = search needs
 put-refusal-requires : tie.Need-put-refusal-requires
 put-refusal-requires c κs = search needs
 
-same-length : tie.Need-same-length
-same-length c = search needs
-
 returns : tie.Need-returns
 returns c =
-    writes-line _ 10 _ _ _ _ (c .before .before .put-refusal .ensures) (omega arith) (broken-input _ (sym (c .before .before .before .before .enum-told .given .1) ∙ c .before .before .before .before .before .before .header-in .ensures))
+    let read = sym (c .before .enum-told .given .1) ∙ c .before .before .before .header-in .ensures in
+    writes-line _ 10 _ _ _ _ (c .put-refusal .ensures) (omega arith) (broken-input _ read)
 
 sub-asked-refusal : tie.Need-sub-asked-refusal
 sub-asked-refusal c = inside _ _ _ (sym (c .before .before .numbers .given .1) ∙ c .before .before .before .before .header-in .ensures)
@@ -37,18 +34,19 @@ asked-refusal-requires c κs = search needs
 put-refusal-requires-2 : tie.Need-put-refusal-requires-2
 put-refusal-requires-2 c κs = search needs
 
-same-length-2 : tie.Need-same-length-2
-same-length-2 c = search needs
-
 returns-2 : tie.Need-returns-2
 returns-2 c =
-    writes-as _ _ _ _ _ (refused-input _ _ _ (sym (c .before .before .before .before .before .before .before .before .numbers .given .1) ∙ c .before .before .before .before .before .before .before .before .before .before .header-in .ensures) _ (c .before .before .before .before .before .asked-refusal .ensures) (c .before .before .before .before .if1 .taken)) (c .before .before .put-refusal2 .ensures)
+    let n = c .before .before .before .before .before in
+    let read = sym (n .numbers .given .1) ∙ n .before .before .header-in .ensures in
+    writes-as _ _ _ _ _ (refused-input _ _ _ read _ (c .before .before .asked-refusal .ensures) (c .before .if1 .taken)) (c .put-refusal2 .ensures)
 
 sub-put-dealt : tie.Need-sub-put-dealt
-sub-put-dealt c = inside _ _ _ (sym (c .before .before .before .before .numbers .given .1) ∙ c .before .before .before .before .before .before .header-in .ensures)
+sub-put-dealt c =
+    let n = c .before .before .before .before in inside _ _ _ (sym (n .numbers .given .1) ∙ n .before .before .header-in .ensures)
 
 part-put-dealt-start : tie.Need-part-put-dealt-start
-part-put-dealt-start c = inside _ _ _ (sym (c .before .before .before .before .numbers .given .1) ∙ c .before .before .before .before .before .before .header-in .ensures)
+part-put-dealt-start c =
+    let n = c .before .before .before .before in inside _ _ _ (sym (n .numbers .given .1) ∙ n .before .before .header-in .ensures)
 
 part-put-dealt-end : tie.Need-part-put-dealt-end
 part-put-dealt-end c = search needs
@@ -56,15 +54,16 @@ part-put-dealt-end c = search needs
 put-dealt-requires : tie.Need-put-dealt-requires
 unfolding board
 put-dealt-requires c κs =
-    let fine = asked-fine _ _ _ _ (sym (c .before .before .before .asked-refusal .ensures) ∙ c .before .before .if1 .left) in
-    (fine .0, fine .1, rest-length _ _ _ (sym (c .before .before .before .before .before .before .numbers .given .1) ∙ c .before .before .before .before .before .before .before .before .header-in .ensures) _ (fine .2))
-
-same-length-3 : tie.Need-same-length-3
-same-length-3 c = search needs
+    let n = c .before .before .before .before .before in
+    let read = sym (n .numbers .given .1) ∙ n .before .before .header-in .ensures in
+    let fine = asked-fine _ _ _ _ (sym (c .before .before .asked-refusal .ensures) ∙ c .before .if1 .left) in
+    ((fine .0, fine .1, rest-length _ _ _ read _ (fine .2)), omega arith)
 
 returns-3 : tie.Need-returns-3
 returns-3 c =
-    writes-as _ _ _ _ _ (asked-input _ _ _ (sym (c .before .before .before .before .before .before .before .before .before .numbers .given .1) ∙ c .before .before .before .before .before .before .before .before .before .before .before .header-in .ensures) (sym (c .before .before .before .before .before .before .asked-refusal .ensures) ∙ c .before .before .before .before .before .if1 .left)) (c .before .before .put-dealt .ensures)
+    let n = c .before .before .before .before .before .before in
+    let read = sym (n .numbers .given .1) ∙ n .before .before .header-in .ensures in
+    writes-as _ _ _ _ _ (asked-input _ _ _ read (sym (c .before .before .before .asked-refusal .ensures) ∙ c .before .before .if1 .left)) (c .put-dealt .ensures)
 
 pub dealing-program-spec : {M : Type 1} → statement M
 dealing-program-spec =
@@ -74,16 +73,13 @@ dealing-program-spec =
     enum-known-numbers
     enum-told
     put-refusal-requires
-    same-length
     returns
     sub-asked-refusal
     asked-refusal-requires
     put-refusal-requires-2
-    same-length-2
     returns-2
     sub-put-dealt
     part-put-dealt-start
     part-put-dealt-end
     put-dealt-requires
-    same-length-3
     returns-3)

@@ -1,6 +1,5 @@
 -- `program_cases::deals` is safe: no more is written than the output has room for. Assumes nothing.
 use mathlib.Core.Path.{sym}
-use native.Mathlib.Omega.{arith}
 use lib.Seq.{length-take-le}
 use Rattle.program_output.proofs.Writing.{writes-within}
 use borrow.Author.Needs.{needs}
@@ -10,18 +9,14 @@ use Rattle.program_cases.proofs.deals.Tie as tie
 large-buffer-requires : tie.Need-large-buffer-requires
 large-buffer-requires c κs = search needs
 
-slice-aggregate-dealing-program : tie.Need-slice-aggregate-dealing-program
-slice-aggregate-dealing-program c = search needs
-
 dealing-program-requires : tie.Need-dealing-program-requires
 dealing-program-requires c κs = search needs
 
 array-share-prefix-output : tie.Need-array-share-prefix-output
-array-share-prefix-output c = writes-within _ _ _ _ (c .before .dealing-program .ensures)
+array-share-prefix-output c = writes-within _ _ _ _ (c .dealing-program .ensures)
 
 slice-aggregate-stored : tie.Need-slice-aggregate-stored
-slice-aggregate-stored c =
-    let p = c .before .before .dealing-program in sym (length-take-le (p .result) (p .last .1 .0) (writes-within _ _ _ _ (p .ensures)))
+slice-aggregate-stored c = sym (length-take-le _ _ (writes-within _ _ _ _ (c .before .dealing-program .ensures)))
 
 stored-requires : tie.Need-stored-requires
 stored-requires c κs = search needs
@@ -34,7 +29,6 @@ deals-spec =
     tie.close
     (tie.spec
     large-buffer-requires
-    slice-aggregate-dealing-program
     dealing-program-requires
     array-share-prefix-output
     slice-aggregate-stored

@@ -1,6 +1,5 @@
 -- `program_cases::joins` is safe: no more is written than the output has room for. Assumes nothing.
 use mathlib.Core.Path.{sym}
-use native.Mathlib.Omega.{arith}
 use lib.Seq.{length-take-le}
 use Rattle.joining_program.proofs.Joinings.{joins-within}
 use borrow.Author.Needs.{needs}
@@ -13,21 +12,14 @@ large-buffer-requires c κs = search needs
 text-buffer-requires : tie.Need-text-buffer-requires
 text-buffer-requires c κs = search needs
 
-slice-aggregate-joining-program : tie.Need-slice-aggregate-joining-program
-slice-aggregate-joining-program c = search needs
-
-slice-aggregate-joining-program-2 : tie.Need-slice-aggregate-joining-program-2
-slice-aggregate-joining-program-2 c = search needs
-
 joining-program-requires : tie.Need-joining-program-requires
 joining-program-requires c κs = search needs
 
 array-share-prefix-output : tie.Need-array-share-prefix-output
-array-share-prefix-output c = joins-within _ _ _ _ _ _ _ (c .before .before .joining-program .ensures)
+array-share-prefix-output c = joins-within _ _ _ _ _ _ (c .joining-program .ensures)
 
 slice-aggregate-stored : tie.Need-slice-aggregate-stored
-slice-aggregate-stored c =
-    let p = c .before .before .before .joining-program in sym (length-take-le (p .result) (p .last .1 .1 .0) (joins-within _ _ _ _ _ _ _ (p .ensures)))
+slice-aggregate-stored c = sym (length-take-le _ _ (joins-within _ _ _ _ _ _ (c .before .joining-program .ensures)))
 
 stored-requires : tie.Need-stored-requires
 stored-requires c κs = search needs
@@ -41,8 +33,6 @@ joins-spec =
     (tie.spec
     large-buffer-requires
     text-buffer-requires
-    slice-aggregate-joining-program
-    slice-aggregate-joining-program-2
     joining-program-requires
     array-share-prefix-output
     slice-aggregate-stored

@@ -7,11 +7,11 @@ use Rattle.compare.proofs.cases.compare.Statement.{statement}
 use Rattle.compare.proofs.cases.compare.Tie as tie
 
 abbrev Inv-loop : tie.InvT-loop
-Inv-loop file operation table₀ output₀ count tally₀ place₀ case₀ table output tally place case =
-    (case ≤ count) × (length table ≡ length table₀) × (length output ≡ length output₀) × (tally .cases ≤ case) × (tally .refused ≤ case) × (tally .equal ≤ case)
+Inv-loop file operation output₀ count tally₀ place₀ case₀ output tally place case =
+    (case ≤ count) × (length output ≡ length output₀) × (tally .cases ≤ case) × (tally .refused ≤ case) × (tally .equal ≤ case)
 
 abbrev μ-loop : tie.MeasureT-loop
-μ-loop file operation table₀ output₀ count tally₀ place₀ case₀ table output tally place case = count - case
+μ-loop file operation output₀ count tally₀ place₀ case₀ output tally place case = count - case
 
 count-requires : tie.Need-count-requires Inv-loop μ-loop
 count-requires c κs = tt
@@ -20,7 +20,7 @@ place-at-requires : tie.Need-place-at-requires Inv-loop μ-loop
 place-at-requires c κs = tt
 
 loop-holds : tie.Need-loop-holds Inv-loop μ-loop
-loop-holds c = (omega arith, refl, refl, omega arith, omega arith, omega arith)
+loop-holds c = (omega arith, refl, omega arith, omega arith, omega arith)
 
 compare-one-requires : tie.Need-compare-one-requires Inv-loop μ-loop
 compare-one-requires c κs = tt
@@ -39,15 +39,12 @@ loop-less c = omega arith
 
 loop-again : tie.Need-loop-again Inv-loop μ-loop
 loop-again c =
-    let l = c .before .before .before .before .before .before .before .before .before .before .loop in
-    let one = c .before .before .before .before .before .before .compare-one in
-    (omega arith, one .kept .1 .1 .1 .1 .0 ∙ l .inv .1, one .kept .1 .1 .1 .1 .1 .0 ∙ l .inv .2, omega arith, omega arith, omega arith)
+    let l = c .before .before .before .before .before .before .before .loop in
+    let one = c .before .before .before .before .compare-one in
+    (omega arith, one .kept .1 .1 .1 .1 .0 ∙ l .inv .1, omega arith, omega arith, omega arith)
 
 same-length : tie.Need-same-length Inv-loop μ-loop
 same-length c = c .before .loop .inv .1
-
-same-length-2 : tie.Need-same-length-2 Inv-loop μ-loop
-same-length-2 c = c .before .loop .inv .2
 
 returns : tie.Need-returns Inv-loop μ-loop
 returns c = tt
@@ -68,5 +65,4 @@ compare-spec =
     loop-less
     loop-again
     same-length
-    same-length-2
     returns)
