@@ -133,7 +133,7 @@ class Page {
 
     /** Waits until a function in the page answers something true. */
     async until(work, ...given) {
-        for (let times = 0; times < 200; times += 1) {
+        for (let times = 0; times < 1000; times += 1) {
             if (await this.run(work, ...given)) return;
             await new Promise((resolve) => { setTimeout(resolve, 25); });
         }

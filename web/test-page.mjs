@@ -22,11 +22,13 @@ const browser = openBrowser();
 after(() => browser.close());
 
 const PHONE = { width: 360, height: 740, phone: true };
+const OPENING = 'The library is being opened.';
 
-/** A test on a newly opened page, on which no script fails and the browser has nothing to complain of. */
+/** A test on a newly opened page with the library open, on which no script fails and the browser has nothing to complain of. */
 function onPage(name, work, look) {
     test(name, { timeout: 60000 }, async () => {
         const page = await browser.open(place, look);
+        await page.until((words) => document.getElementById('status').textContent !== words, OPENING);
         await work(page);
         assert.deepEqual(page.complaints, []);
         assert.deepEqual(page.requests, [place.href]);
