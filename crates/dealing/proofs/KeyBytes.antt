@@ -211,10 +211,11 @@ module _ (b : Board) (l : Lent) (facts : Lent-fits b l) where
             omega (arith, p .next-is, front-long i one, here, key-room h, kept, keys-kept (omega arith)),
           )
 
-      -- and with both its key is written
-      pub turn : player < b .p → (end after row : ℕ) (between now : List ℕ) → row ≡ row-long b → Wrote next (front player) end keys between →
-          Wrote end (take row (drop last between)) after between now → Wrote start (some-keys (player + 1 - 1) 1) after begun now
-      turn h end after row between now is p q =
+      -- and with both its key is written, where the front is this player's
+      pub turn : player < b .p → (row : ℕ) → row ≡ row-long b → {i end after : ℕ} {between now : List ℕ} → Wrote next (front i) end keys between →
+          Wrote end (take row (drop last between)) after between now → i ≡ player → Wrote start (some-keys (player + 1 - 1) 1) after begun now
+      turn h row is {i} {end} {after} {between} {now} made q own =
+          let p : Wrote next (front player) end keys between = subst (λ (k : ℕ). Wrote next (front k) end keys between) own made in
           let before = some-keys (player - 1) 1 in
           let count : player + 1 - 1 ≡ suc (player - 1) = omega arith in
           let this : 1 + (player - 1) ≡ player = omega arith in
