@@ -93,13 +93,16 @@ put-front-requires-2 c κs =
     let f = facts s in
     let l = c .before .before .before .loop in
     let most = board-in (board-of (s .args .board)) (f .accepted) .players-most in
-    (f .accepted, omega arith, f .arrays, f .seeds, next-front-room (board-of (c .before .before .before .before .before .before .before .before .before .before .before .before .before .before .before .before .before .before .args .board)) (lent-to (c .before .before .before .before .before .before .before .before .before .before .before .before .before .before .before .before .before .before)) (facts (c .before .before .before .before .before .before .before .before .before .before .before .before .before .before .before .before .before .before)) _ _ _ _ _ (begun (c .before .before .before .before)) (l .player) (l .next) (l .keys) (l .inv .0) (l .inv .3) _ (omega arith) (omega arith))
+    (f .accepted, omega arith, f .arrays, f .seeds, next-front-room (board-of (s .args .board)) (lent-to s) f _ _ _ _ _ (begun (c .before .before .before .before)) (l .player) (l .next) (l .keys) (l .inv .0) (l .inv .3) _ (omega arith) (omega arith))
 
 put-again-requires : tie.Need-put-again-requires Inv-loop μ-loop
 unfolding board
 put-again-requires c κs =
+    let s = c .before .before .before .before .before .before .before .before .before .before .before .before .before .before .before .before .before .before .before .before .before .before in
+    let f = facts s in
+    let most = board-in (board-of (s .args .board)) (f .accepted) .players-most in
     let l = c .before .before .before .before .before .before .before .loop in
-    let room = again-room (board-of (c .before .before .before .before .before .before .before .before .before .before .before .before .before .before .before .before .before .before .before .before .before .before .args .board)) (lent-to (c .before .before .before .before .before .before .before .before .before .before .before .before .before .before .before .before .before .before .before .before .before .before)) (facts (c .before .before .before .before .before .before .before .before .before .before .before .before .before .before .before .before .before .before .before .before .before .before)) _ _ _ _ _ (begun (c .before .before .before .before .before .before .before .before)) (l .player) (l .next) (l .keys) (l .inv .0) (l .inv .3) _ (omega arith) (omega arith) _ (c .before .before .before .before .before .before .before .before .before .before .before .before .before .before .before .before .row-length .result) _ (c .before .before .before .before .before .before .before .before .before .before .before .before .before .before .before .before .row-length .ensures) (c .before .before .before .put-front2 .ensures) in
+    let room = again-room (board-of (s .args .board)) (lent-to s) f _ _ _ _ _ (begun (c .before .before .before .before .before .before .before .before)) (l .player) (l .next) (l .keys) (l .inv .0) (l .inv .3) _ (omega arith) (omega arith) _ (c .before .before .before .before .before .before .before .before .before .before .before .before .before .before .before .before .row-length .result) _ (c .before .before .before .before .before .before .before .before .before .before .before .before .before .before .before .before .row-length .ensures) (c .before .before .before .put-front2 .ensures) in
     (omega (arith, room .0), omega (arith, room .1))
 
 add-player : tie.Need-add-player Inv-loop μ-loop
