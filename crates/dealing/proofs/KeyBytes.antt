@@ -62,7 +62,10 @@ nobody-marks b o i (c ∷ cs) h good =
     one false n e h = omega arith
 
 -- where every array has m marks of a player, every grid row has one length
-body-marked : (k g m : ℕ) (b : Board) (i a : ℕ) (cs ss : List ℕ) → ((o : Bool) (array : List ℕ) → length array ≡ columns b → array-good b o array ≡ true → marked i array ≡ m) →
+abbrev Has-marks : Board → (player m : ℕ) → Type 0
+Has-marks b i m = (o : Bool) (array : List ℕ) → length array ≡ columns b → array-good b o array ≡ true → marked i array ≡ m
+
+body-marked : (k g m : ℕ) (b : Board) (i a : ℕ) (cs ss : List ℕ) → Has-marks b i m →
     arrays-good k g b a cs ≡ true → k * columns b ≤ length cs → 32 * (k * columns b) ≤ length ss → length (body-from k b i cs ss) ≡ k * (mark-bytes b + 32 * m)
 unfolding body-from arrays-good
 body-marked zero g m b i a cs ss each good enough seeds = omega arith
@@ -75,7 +78,8 @@ body-marked (suc k) g m b i a cs ss each good enough seeds =
     let array-long : length array ≡ J = length-take-le J cs (omega arith) in
     let counted = each (eqb g (a / b .wide)) array array-long (and-left this others good) in
     let held = held-long i array ss (omega arith) in
-    let rest = body-marked k (suc g) m b i a (drop J cs) (drop (32 * J) ss) each (and-right this others good) (rw length-drop (omega arith)) (rw length-drop (omega arith)) in
+    let rest = body-marked k (suc g) m b i a (drop J cs) (drop (32 * J) ss) each (and-right this others good)
+    (rw length-drop (omega arith)) (rw length-drop (omega arith)) in
     let marks = packed-long (mark-bytes b) i array in
     length-append (packed (mark-bytes b) i array ++ held-seeds i array ss) (body-from k b i (drop J cs) (drop (32 * J) ss))
     ∙ rw (length-append (packed (mark-bytes b) i array) (held-seeds i array ss), marks, held, counted, rest) (one-more k (mark-bytes b) (32 * m))
@@ -88,9 +92,10 @@ body-long : (b : Board) (i a : ℕ) (cs ss : List ℕ) → Board-in b → i < b 
     32 * (grid-rows b * columns b) ≤ length ss → length (body-from (grid-rows b) b i cs ss) ≡ grid-rows b * stride b
 unfolding stride Half-is-marked
 body-long b i a cs ss f h good enough seeds =
-    let half : 32 * (columns b / 2) ≡ 16 * columns b = omega (arith, columns-half b f) in
-    body-marked (grid-rows b) 0 (columns b / 2) b i a cs ss (λ o array long fits. half-is-marked b o array (record { board = board-accepted b f; long = long; good = fits }) i h)
-    good enough seeds ∙ ap (λ (n : ℕ). grid-rows b * (mark-bytes b + n)) half
+    let bytes : 32 * (columns b / 2) ≡ 16 * columns b = omega (arith, columns-half b f) in
+    let half : Has-marks b i (columns b / 2) =
+    (λ o array long fits. half-is-marked b o array (record { board = board-accepted b f; long = long; good = fits }) i h) in
+    body-marked (grid-rows b) 0 (columns b / 2) b i a cs ss half good enough seeds ∙ ap (λ (n : ℕ). grid-rows b * (mark-bytes b + n)) bytes
 
 -- strings one behind another, and one more
 glued-snoc : (ws : List (List ℕ)) (w : List ℕ) → glued (ws ++ (w ∷ [])) ≡ glued ws ++ w
@@ -180,7 +185,8 @@ module _ (b : Board) (l : Lent) (facts : Lent-fits b l) where
       split : (t : Bool) → ltb i (b .p) ≡ t → length (front i) + row-long b ≤ key-long b
       split true e = omega (arith, front-long i (ltb-true i (b .p) e))
       split false e =
-          let bare = body-marked (grid-rows b) 0 0 b i (l .point) (l .arrays) (l .seeds) (λ o array long fits. nobody-marks b o i array (ltb-false i (b .p) e) fits)
+          let none : Has-marks b i 0 = (λ o array long fits. nobody-marks b o i array (ltb-false i (b .p) e) fits) in
+          let bare = body-marked (grid-rows b) 0 0 b i (l .point) (l .arrays) (l .seeds) none
           (facts .parities) (omega (arith, facts .arrays)) (omega (arith, facts .seeds)) in
           let same : grid-rows b ≤ grid-rows b = omega arith in
           let fewer : mark-bytes b + 32 * 0 ≤ mark-bytes b + 16 * columns b = omega arith in

@@ -70,21 +70,23 @@ loop-holds c = (omega arith, omega (arith, board-in (board-of (c .before .before
 loop-again : tie.Need-loop-again Inv-loop μ-loop
 unfolding board
 loop-again c =
+    let s = c .before .before .before .before .before .before .before .before .before .before .before .before .before .before .before .before .before .before .before .before .before .before .before .before .before in
     let l = c .before .before .before .before .before .before .before .before .before .before .loop in
     let f = c .before .before .before .before .before .before .put-front2 in
     let w = c .before .before .put-again in (
       omega arith,
       omega arith,
       w .kept .0 ∙ f .kept .0 ∙ l .inv .2,
-      turn (board-of (c .before .before .before .before .before .before .before .before .before .before .before .before .before .before .before .before .before .before .before .before .before .before .before .before .before .args .board)) (lent-to (c .before .before .before .before .before .before .before .before .before .before .before .before .before .before .before .before .before .before .before .before .before .before .before .before .before)) (facts (c .before .before .before .before .before .before .before .before .before .before .before .before .before .before .before .before .before .before .before .before .before .before .before .before .before)) _ _ _ _ _ (begun (c .before .before .before .before .before .before .before .before .before .before .before)) (l .player) (l .next) (l .keys) (l .inv .0) (l .inv .3) (omega arith)
+      turn (board-of (s .args .board)) (lent-to s) (facts s) _ _ _ _ _ (begun (c .before .before .before .before .before .before .before .before .before .before .before)) (l .player) (l .next) (l .keys) (l .inv .0) (l .inv .3) (omega arith)
           _ (c .before .before .before .before .before .before .before .before .before .before .before .before .before .before .before .before .before .before .before .row-length .ensures) (f .ensures) (w .ensures) (omega arith),
     )
 
 returns : tie.Need-returns Inv-loop μ-loop
 unfolding board
 returns c =
+    let s = c .before .before .before .before .before .before .before .before .before .before .before .before .before .before .before .before .before in
     let l = c .before .before .loop in
-    all-written (board-of (c .before .before .before .before .before .before .before .before .before .before .before .before .before .before .before .before .before .args .board)) (lent-to (c .before .before .before .before .before .before .before .before .before .before .before .before .before .before .before .before .before)) (facts (c .before .before .before .before .before .before .before .before .before .before .before .before .before .before .before .before .before)) _ _ _ _ _ (begun (c .before .before .before)) (l .player) (l .next) (l .keys) (omega arith) (l .inv .3)
+    all-written (board-of (s .args .board)) (lent-to s) (facts s) _ _ _ _ _ (begun (c .before .before .before)) (l .player) (l .next) (l .keys) (omega arith) (l .inv .3)
 
 put-front-requires-2 : tie.Need-put-front-requires-2 Inv-loop μ-loop
 unfolding board
