@@ -1,15 +1,17 @@
 -- The laws of whole keys: how long their parts are, that a key is its front and the last word, and keys written one behind another. Assumes nothing.
 use mathlib.Core.Path.{_≡_, refl, sym, ap, _∙_, subst}
-use mathlib.Core.Bool.{Bool, true, false, cond}
+use mathlib.Core.Bool.{Bool, true, false, _&&_, not, cond, false≢true}
 use mathlib.Core.List.{List, [], _∷_, _++_, append-assoc, append-nil}
 use Prim.Native.Nat.{ℕ, zero, suc, _+_, _*_, _-_, _/_, _^_, _≤_, _<_}
 use native.Mathlib.Omega.{arith}
-use native.Mathlib.Nat.{add-zero, mul-le-mul-right}
-use lib.Dec.{eqb}
+use native.Mathlib.Nat.{add-zero, mul-le-mul, mul-le-mul-right, div-eq-of-lt}
+use lib.Dec.{ltb, eqb}
 use lib.ListN.{length, take, drop, length-append, length-drop}
+use lib.Pow.{pow-mono}
 use lib.Seq.{length-take-le, take-all}
+use borrow.Author.Tests.{ltb-true, ltb-false}
 use Rattle.xor.proofs.Laws.{and-left, and-right}
-use Rattle.grid.specs.Grid.{Board, columns, grid-rows, row-long, bit, array-good, arrays-good, last-word, all-words}
+use Rattle.grid.specs.Grid.{Board, columns, grid-rows, row-long, bit, is-odd, same-parity, member, array-good, arrays-good, last-word, all-words}
 use Rattle.grid.specs.Arrays.{marked, Half-is-marked}
 use Rattle.grid.proofs.Facts.{Board-in, board-in, board-accepted, columns-half, columns-pos}
 use Rattle.grid.proofs.Arrays.{half-is-marked}
@@ -38,29 +40,62 @@ held-long i (c ∷ cs) ss h =
     one true seed rest marks l r = omega arith
     one false seed rest marks l r = omega arith
 
--- a player marks half of the columns, so every grid row has one length
-pub body-long : (k g : ℕ) (b : Board) (i a : ℕ) (cs ss : List ℕ) → Board-in b → i < b .p → arrays-good k g b a cs ≡ true → k * columns b ≤ length cs →
-    32 * (k * columns b) ≤ length ss → length (body-from k b i cs ss) ≡ k * stride b
-unfolding body-from arrays-good stride Half-is-marked
-body-long zero g b i a cs ss f h good enough seeds = omega arith
-body-long (suc k) g b i a cs ss f h good enough seeds =
+-- a player who is not there marks no column
+unmarked : (c i : ℕ) → c < 2 ^ i → bit c i ≡ false
+unfolding bit
+unmarked c i h = let none : c / 2 ^ i ≡ 0 = div-eq-of-lt h in rw none
+
+nobody-marks : (b : Board) (o : Bool) (i : ℕ) (cs : List ℕ) → b .p ≤ i → array-good b o cs ≡ true → marked i cs ≡ 0
+unfolding array-good marked
+nobody-marks b o i [] h good = refl
+nobody-marks b o i (c ∷ cs) h good =
+    let low = ltb c (2 ^ b .p) in
+    let fits = same-parity (is-odd c) o in
+    let own = not (member c cs) in
+    let others = array-good b o cs in
+    let below : c < 2 ^ b .p = ltb-true c (2 ^ b .p) (and-left low fits (and-left (low && fits) (own && others) good)) in
+    one (bit c i) (marked i cs) (unmarked c i (omega (arith, pow-mono h)))
+    (nobody-marks b o i cs h (and-right own others (and-right (low && fits) (own && others) good)))
+  where
+    one : (t : Bool) (n : ℕ) → t ≡ false → n ≡ 0 → cond t 1 0 + n ≡ 0
+    one true n e h = absurd (false≢true (sym e))
+    one false n e h = omega arith
+
+-- where every array has m marks of a player, every grid row has one length
+abbrev Has-marks : Board → (player m : ℕ) → Type 0
+Has-marks b i m = (o : Bool) (array : List ℕ) → length array ≡ columns b → array-good b o array ≡ true → marked i array ≡ m
+
+body-marked : (k g m : ℕ) (b : Board) (i a : ℕ) (cs ss : List ℕ) → Has-marks b i m →
+    arrays-good k g b a cs ≡ true → k * columns b ≤ length cs → 32 * (k * columns b) ≤ length ss → length (body-from k b i cs ss) ≡ k * (mark-bytes b + 32 * m)
+unfolding body-from arrays-good
+body-marked zero g m b i a cs ss each good enough seeds = omega arith
+body-marked (suc k) g m b i a cs ss each good enough seeds =
     let J = columns b in
     let array = take J cs in
     let first : suc k * J ≡ J + k * J = omega arith in
     let this = array-good b (eqb g (a / b .wide)) array in
     let others = arrays-good k (suc g) b a (drop J cs) in
     let array-long : length array ≡ J = length-take-le J cs (omega arith) in
-    let half = half-is-marked b (eqb g (a / b .wide)) array
-    (record { board = board-accepted b f; long = array-long; good = and-left this others good }) i h in
+    let counted = each (eqb g (a / b .wide)) array array-long (and-left this others good) in
     let held = held-long i array ss (omega arith) in
-    let even = columns-half b f in
-    let rest = body-long k (suc g) b i a (drop J cs) (drop (32 * J) ss) f h (and-right this others good) (rw length-drop (omega arith)) (rw length-drop (omega arith)) in
+    let rest = body-marked k (suc g) m b i a (drop J cs) (drop (32 * J) ss) each (and-right this others good)
+    (rw length-drop (omega arith)) (rw length-drop (omega arith)) in
     let marks = packed-long (mark-bytes b) i array in
     length-append (packed (mark-bytes b) i array ++ held-seeds i array ss) (body-from k b i (drop J cs) (drop (32 * J) ss))
-    ∙ rw (length-append (packed (mark-bytes b) i array) (held-seeds i array ss), marks, held, half, rest) (lengths J (mark-bytes b) (2 ^ (b .p - 2)) k even)
+    ∙ rw (length-append (packed (mark-bytes b) i array) (held-seeds i array ss), marks, held, counted, rest) (one-more k (mark-bytes b) (32 * m))
   where
-    lengths : (count m x k : ℕ) → count ≡ 2 * x → m + 32 * (count / 2) + k * (m + 16 * count) ≡ suc k * (m + 16 * count)
-    lengths count m x k e = let half : 32 * (count / 2) ≡ 16 * count = omega arith in rw half (omega arith)
+    one-more : (k x y : ℕ) → x + y + k * (x + y) ≡ suc k * (x + y)
+    one-more k x y = omega arith
+
+-- a player marks half of the columns
+body-long : (b : Board) (i a : ℕ) (cs ss : List ℕ) → Board-in b → i < b .p → arrays-good (grid-rows b) 0 b a cs ≡ true → grid-rows b * columns b ≤ length cs →
+    32 * (grid-rows b * columns b) ≤ length ss → length (body-from (grid-rows b) b i cs ss) ≡ grid-rows b * stride b
+unfolding stride Half-is-marked
+body-long b i a cs ss f h good enough seeds =
+    let bytes : 32 * (columns b / 2) ≡ 16 * columns b = omega (arith, columns-half b f) in
+    let half : Has-marks b i (columns b / 2) =
+    (λ o array long fits. half-is-marked b o array (record { board = board-accepted b f; long = long; good = fits }) i h) in
+    body-marked (grid-rows b) 0 (columns b / 2) b i a cs ss half good enough seeds ∙ ap (λ (n : ℕ). grid-rows b * (mark-bytes b + n)) bytes
 
 -- strings one behind another, and one more
 glued-snoc : (ws : List (List ℕ)) (w : List ℕ) → glued (ws ++ (w ∷ [])) ≡ glued ws ++ w
@@ -125,15 +160,37 @@ module _ (b : Board) (l : Lent) (facts : Lent-fits b l) where
       let whole : glued lent-words ≡ l .words = glue-words (columns b - 1) (row-long b) (l .words) ∙ take-all ((columns b - 1) * row-long b) (l .words) (omega (arith, facts .words)) in
       ap (λ (r : List ℕ). rows ++ r) (glued-snoc lent-words word ∙ ap (λ (r : List ℕ). r ++ word) whole) ∙ sym (append-assoc rows (l .words) word)
 
-  pub front-long : (i : ℕ) → i < b .p → length (front i) + row-long b ≡ key-long b
-  unfolding key-front key-long stride
-  front-long i h =
-      let f = board-in b (facts .accepted) in
+  -- a front and the last word, by the length of a grid row
+  front-is : (i n : ℕ) → i < 8 → length (body-from (grid-rows b) b i (l .arrays) (l .seeds)) ≡ grid-rows b * n →
+      length (front i) + row-long b ≡ length (header b 0) + grid-rows b * n + columns b * row-long b
+  unfolding key-front
+  front-is i n h rows-long =
       let head = header b i in
       let rows = body-from (grid-rows b) b i (l .arrays) (l .seeds) in
-      let rows-long = body-long (grid-rows b) 0 b i (l .point) (l .arrays) (l .seeds) f h (facts .parities) (omega (arith, facts .arrays)) (omega (arith, facts .seeds)) in
-      rw (length-append (head ++ rows) (l .words), length-append head rows, header-long b i (omega (arith, f .players-most)), rows-long, facts .words)
+      rw (length-append (head ++ rows) (l .words), length-append head rows, header-long b i (omega arith), rows-long, facts .words)
       (omega (arith, one-more-row (columns b) (row-long b) (columns-pos b)))
+
+  pub front-long : (i : ℕ) → i < b .p → length (front i) + row-long b ≡ key-long b
+  unfolding key-long stride
+  front-long i h =
+      let f = board-in b (facts .accepted) in
+      front-is i (stride b) (omega (arith, f .players-most))
+      (body-long b i (l .point) (l .arrays) (l .seeds) f h (facts .parities) (omega (arith, facts .arrays)) (omega (arith, facts .seeds)))
+
+  -- a key for nobody has no seeds: no front is longer than a player's
+  front-most : (i : ℕ) → i < 8 → length (front i) + row-long b ≤ key-long b
+  unfolding key-long
+  front-most i h = split (ltb i (b .p)) refl
+    where
+      split : (t : Bool) → ltb i (b .p) ≡ t → length (front i) + row-long b ≤ key-long b
+      split true e = omega (arith, front-long i (ltb-true i (b .p) e))
+      split false e =
+          let none : Has-marks b i 0 = (λ o array long fits. nobody-marks b o i array (ltb-false i (b .p) e) fits) in
+          let bare = body-marked (grid-rows b) 0 0 b i (l .point) (l .arrays) (l .seeds) none
+          (facts .parities) (omega (arith, facts .arrays)) (omega (arith, facts .seeds)) in
+          let same : grid-rows b ≤ grid-rows b = omega arith in
+          let fewer : mark-bytes b + 32 * 0 ≤ mark-bytes b + 16 * columns b = omega arith in
+          omega (arith, front-is i (mark-bytes b + 32 * 0) h bare, mul-le-mul same fewer)
 
   pub key-long-is : (i : ℕ) → i < b .p → length (one-key i) ≡ key-long b
   key-long-is i h = ap length (key-is i) ∙ length-append (front i) word ∙ omega (arith, word-long, front-long i h)
@@ -197,24 +254,25 @@ module _ (b : Board) (l : Lent) (facts : Lent-fits b l) where
           let here = next-is-at h in
           wrote-length (some-keys (player - 1) 1) (omega (arith, so-far .next-is, begun-long, mul-le-mul-right (key-long b) h, z .room)) so-far ∙ begun-long
 
-      pub next-front-room : (i : ℕ) → player < b .p → i < b .p → next + length (front i) ≤ length keys
+      pub next-front-room : (i : ℕ) → player < b .p → i < 8 → next + length (front i) ≤ length keys
       next-front-room i h one =
-          omega (arith, next-is-at (omega arith), key-room h, front-long i one, keys-kept (omega arith))
+          omega (arith, next-is-at (omega arith), key-room h, front-most i one, keys-kept (omega arith))
 
       -- there is room behind its front for the last word, which stands before it
-      pub again-room : (i : ℕ) → player < b .p → i < b .p → (end row : ℕ) (now : List ℕ) → row ≡ row-long b → Wrote next (front i) end keys now →
+      pub again-room : (i : ℕ) → player < b .p → i < 8 → (end row : ℕ) (now : List ℕ) → row ≡ row-long b → Wrote next (front i) end keys now →
           (last + row ≤ end) × (end + row ≤ length now)
       again-room i h one end row now is p =
           let here = next-is-at (omega arith) in
           let kept = wrote-length (front i) (next-front-room i h one) p in (
             omega (arith, start-is .0, start-is .1, here, mul-le-mul-right (key-long b) from, p .next-is),
-            omega (arith, p .next-is, front-long i one, here, key-room h, kept, keys-kept (omega arith)),
+            omega (arith, p .next-is, front-most i one, here, key-room h, kept, keys-kept (omega arith)),
           )
 
-      -- and with both its key is written
-      pub turn : player < b .p → (end after row : ℕ) (between now : List ℕ) → row ≡ row-long b → Wrote next (front player) end keys between →
-          Wrote end (take row (drop last between)) after between now → Wrote start (some-keys (player + 1 - 1) 1) after begun now
-      turn h end after row between now is p q =
+      -- and with both its key is written, where the front is this player's
+      pub turn : player < b .p → (row : ℕ) → row ≡ row-long b → {i end after : ℕ} {between now : List ℕ} → Wrote next (front i) end keys between →
+          Wrote end (take row (drop last between)) after between now → i ≡ player → Wrote start (some-keys (player + 1 - 1) 1) after begun now
+      turn h row is {i} {end} {after} {between} {now} made q own =
+          let p : Wrote next (front player) end keys between = subst (λ (k : ℕ). Wrote next (front k) end keys between) own made in
           let before = some-keys (player - 1) 1 in
           let count : player + 1 - 1 ≡ suc (player - 1) = omega arith in
           let this : 1 + (player - 1) ≡ player = omega arith in

@@ -286,19 +286,30 @@ turned-alone c (suc i) =
     let same : other-marks (turned c (suc i) / 2) i ≡ other-marks (c / 2) i = rw (turned-half c i) (turned-alone (c / 2) i) in
     omega arith
 
+-- the test of parities is that they are the same
+pub parity-is : (s o : Bool) → same-parity s o ≡ true → s ≡ o
+unfolding same-parity
+parity-is true o h = sym h
+parity-is false true h = h
+parity-is false false h = refl
+
+pub parity-fits : (s o : Bool) → s ≡ o → same-parity s o ≡ true
+unfolding same-parity
+parity-fits true o h = sym h
+parity-fits false true h = h
+parity-fits false false h = refl
+
 -- THE MENDED COLUMN
 
 -- what mending does: nothing, or player i's mark turned round
 mended-cases :
     (o : Bool) (c i : ℕ) (P : ℕ → Type 0) → (is-odd c ≡ o → P c) → ((is-odd c ≡ o → ⊥) → P (turned c i)) → P (mended o c i)
-unfolding mended same-parity
-mended-cases o c i P stays turns = go (is-odd c) o refl stays turns
+unfolding mended
+mended-cases o c i P stays turns = go (same-parity (is-odd c) o) refl
   where
-    go : (t u : Bool) → is-odd c ≡ t → (is-odd c ≡ u → P c) → ((is-odd c ≡ u → ⊥) → P (turned c i)) → P (cond (cond t u (not u)) c (turned c i))
-    go true true e s q = s e
-    go true false e s q = q (λ z. true≢false (sym e ∙ z))
-    go false true e s q = q (λ z. false≢true (sym e ∙ z))
-    go false false e s q = s e
+    go : (t : Bool) → same-parity (is-odd c) o ≡ t → P (cond t c (turned c i))
+    go true e = stays (parity-is (is-odd c) o e)
+    go false e = turns (λ same. true≢false (sym (parity-fits (is-odd c) o same) ∙ e))
 
 pub mended-low : (p : ℕ) (o : Bool) (c i : ℕ) → i < p → c < 2 ^ p → mended o c i < 2 ^ p
 mended-low p o c i h q = mended-cases o c i (λ v. v < 2 ^ p) (λ e. q) (λ e. turned-low p c i h q)

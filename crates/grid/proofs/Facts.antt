@@ -16,6 +16,7 @@ use borrow.Author.Tests.{ltb-true, ltb-false, leb-true, eqb-true, eqb-false, not
 use Rattle.xor.specs.Xor.{bytes-good}
 use Rattle.xor.proofs.Laws.{Word, and-left, and-right, and-both}
 use Rattle.grid.specs.Grid.{Board, columns, grid-rows, row-long, board-refusal, Dealing, column, row-of, is-odd, same-parity, member, array-good, arrays-good, each-long, dealing-good}
+use Rattle.grid.proofs.Columns.{parity-is, parity-fits}
 
 -- BOARDS
 
@@ -146,19 +147,6 @@ or-right false t h = h
 neither : (s t : Bool) → s ≡ false → t ≡ false → (s || t) ≡ false
 neither true t p q = p
 neither false t p q = q
-
--- the test of parities is that they are the same
-parity-is : (s o : Bool) → same-parity s o ≡ true → s ≡ o
-unfolding same-parity
-parity-is true o h = sym h
-parity-is false true h = h
-parity-is false false h = refl
-
-parity-fits : (s o : Bool) → s ≡ o → same-parity s o ≡ true
-unfolding same-parity
-parity-fits true o h = sym h
-parity-fits false true h = h
-parity-fits false false h = refl
 
 -- a number that a list has not
 pub absent : (v : ℕ) (xs : List ℕ) → member v xs ≡ false → (j : ℕ) → j < length xs → getD xs j 0 ≡ v → ⊥

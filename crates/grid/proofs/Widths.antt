@@ -18,10 +18,14 @@ use Rattle.grid.proofs.Facts.{board-accepted}
 -- ONE TURN
 
 -- a width whose square is large enough is the answer, however many are left to try
-pub width-here : (left wide squares : ℕ) → squares ≤ wide * wide → width-from left wide squares ≡ wide
+width-here : (left wide squares : ℕ) → squares ≤ wide * wide → width-from left wide squares ≡ wide
 unfolding width-from
 width-here zero wide squares h = refl
 width-here (suc left) wide squares h = simp (le-leb _ _ h)
+
+-- so a search that comes to it has found it
+pub width-found : (left wide squares : ℕ) {found : ℕ} → width-from left wide squares ≡ found → squares ≤ wide * wide → wide ≡ found
+width-found left wide squares e h = sym (width-here left wide squares h) ∙ e
 
 -- one whose square is too small is passed over
 width-on : (left wide squares : ℕ) → wide * wide < squares → width-from (suc left) wide squares ≡ width-from left (suc wide) squares

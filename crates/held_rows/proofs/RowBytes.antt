@@ -1,5 +1,5 @@
 -- The laws of a grid row's bytes: held seeds column by column, and grid rows one behind another. Assumes nothing.
-use mathlib.Core.Path.{_≡_, refl, sym, ap, _∙_}
+use mathlib.Core.Path.{_≡_, refl, sym, ap, _∙_, subst}
 use mathlib.Core.Bool.{cond}
 use mathlib.Core.List.{List, [], _∷_, _++_, append-assoc, append-nil}
 use Prim.Native.Nat.{ℕ, zero, suc, _+_, _*_, _-_, _/_, _≤_, _<_}
@@ -173,3 +173,16 @@ rows-turn at k n player b arrays seeds within room p q =
     let grown = body-snoc k b player arrays seeds in
     let long : length (body-from (k + 1) b player arrays seeds) ≡ length front + length row = ap length grown ∙ length-append front row in
     wrote-more front row (body-from (k + 1) b player arrays seeds) grown (omega (arith, body-within k n b player arrays seeds within)) p q
+
+-- the same as the code cuts a grid row out, for the player whose key it is
+abbrev pub cut-row : (m player k J : ℕ) → (arrays seeds : List ℕ) → List ℕ
+cut-row m i k J arrays seeds =
+    row-bytes m i (take (k * J + J - k * J) (drop (k * J) arrays)) (take (length seeds - 32 * (k * J)) (drop (32 * (k * J)) seeds))
+
+pub cut-turn : (at k n player J : ℕ) {next after m i : ℕ} (b : Board) (arrays seeds : List ℕ) {old between now : List ℕ} → k < n →
+    at + length (body-from n b player arrays seeds) ≤ length old → J ≡ columns b → Wrote at (body-from k b player arrays seeds) next old between →
+    Wrote next (cut-row m i k J arrays seeds) after between now → m ≡ mark-bytes b → i ≡ player →
+    Wrote at (body-from (k + 1) b player arrays seeds) after old now
+cut-turn at k n player J {next} {after} {m} {i} b arrays seeds {old} {between} {now} within room wide p q marks own =
+    let here = ap (λ (x : ℕ). cut-row m x k J arrays seeds) own ∙ row-here k J m player b arrays seeds wide marks in
+    rows-turn at k n player b arrays seeds within room p (subst (λ (l : List ℕ). Wrote next l after between now) here q)

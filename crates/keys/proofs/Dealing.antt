@@ -17,7 +17,7 @@ use Rattle.grid.specs.Arrays.{marked, Half-is-marked}
 use Rattle.grid.proofs.Facts.{board-accepted, Board-in, board-in, Facts, arrays-in, arrays-split, array-of, array-long, rows-in, words-in, grid-row-in, words-long}
 use Rattle.grid.proofs.Arrays.{half-is-marked}
 use Rattle.grid.proofs.LastWord.{all-words-long, all-words-are}
-use Rattle.keys.specs.Keys.{Lent, dealing, deal-refusal, mark-bytes, held-seeds, body-from, glued, rows-from, words-from, key, rows-written, key-written, parts-share, share-by-parts}
+use Rattle.keys.specs.Keys.{Lent, dealing, deal-refusal, mark-bytes, held-seeds, body-from, glued, rows-from, words-from, key, packed-marks, rows-written, key-written, parts-share, share-by-parts}
 use Rattle.keys.specs.Promise.{Rule-good, lent-good, dealt-parts}
 use Rattle.keys.proofs.Lists.{length-words, take-words, drop-words, each-cons, each-words, each-head, each-tail}
 use Rattle.keys.proofs.Marks.{marks-set, packed-is, take-marks, drop-marks, length-marks-of}
@@ -235,8 +235,9 @@ body-is (suc k) b i cs ss e h =
     let bytes : J * 32 ≡ 32 * J = omega arith in
     let others = body-is k b i (drop J cs) (drop (32 * J) ss) (length-drop J cs ∙ omega arith)
     (λ g p. let further : J + g * J ≡ suc g * J = omega arith in rw (drop-marks J i cs, drop-drop (g * J) J (marks-of i cs), further) (h (suc g) (omega arith))) in
-    rw (next, held-first, held-later, bytes, ← drop-marks J i cs, ← take-marks J i cs, ← others, packed-is (mark-bytes b) i (take J cs))
-    (rw (held-glued J i (take J cs) ss (length-take-le J cs (omega arith))))
+    let first = packed-marks (mark-bytes b) (marks-of i (take J cs)) ++ glued (held-rows i (take J cs) (words-from J 32 ss)) in
+    rw (next, held-first, held-later, bytes, ← drop-marks J i cs, ← take-marks J i cs, packed-is (mark-bytes b) i (take J cs))
+    (rw (held-glued J i (take J cs) ss (length-take-le J cs (omega arith))) (ap (λ (later : List ℕ). first ++ later) others))
 
 pub key-is : (b : Board) (f : List ℕ → List ℕ) (l : Lent) (i : ℕ) → Lent-in b l → i < b .p → key b f l i ≡ key-written b i (dealt-parts b f l i)
 unfolding key key-written dealt-parts

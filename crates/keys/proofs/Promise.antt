@@ -9,7 +9,7 @@ use lib.ListN.{take, drop}
 use borrow.Author.Tests.{eq-eqb, ne-eqb}
 use Rattle.xor.specs.Xor.{zeros, bytes-good}
 use Rattle.xor.proofs.Laws.{Word, word-xors, word-zeros}
-use Rattle.grid.specs.Grid.{Board, columns, grid-rows, bit, Dealing, share, joined-from, Held, held, held-rows}
+use Rattle.grid.specs.Grid.{Board, columns, grid-rows, bit, Dealing, share, joined-from, Held, held, held-rows, marks-of, all-words}
 use Rattle.grid.specs.Hiding.{Same-for-others, Named, Just-one-dealing}
 use Rattle.grid.specs.Joining.{over, Shares-join}
 use Rattle.grid.proofs.Facts.{dealing-accepted}
@@ -222,8 +222,10 @@ held-of i f (c ∷ cs) (s ∷ ss) = go (bit c i) (held-of i f cs ss)
 pub held-is-read : Held-is-read
 unfolding Held-is-read held held-in dealing dealt-parts
 held-is-read b f l i lent rule h =
-    let seeds = words-from (grid-rows b * columns b) 32 (l .seeds) in
-    rw (dealt-reads b f l i lent rule h, rows-are (grid-rows b * columns b) f (l .seeds), held-of i f (l .arrays) seeds)
+    let cells = grid-rows b * columns b in
+    rw (dealt-reads b f l i lent rule h)
+    (ap (λ (rs : List (List ℕ)). record { marks = marks-of i (l .arrays); rows = rs; words = all-words b (dealing b f l) })
+    (ap (held-rows i (l .arrays)) (rows-are cells f (l .seeds)) ∙ held-of i f (l .arrays) (words-from cells 32 (l .seeds))))
 
 -- keys that agree are held alike, and keys that are held alike agree
 agree-held : (f : List ℕ → List ℕ) (ks ls : List ℕ) → Agree f ks ls → held-in f ks ≡ held-in f ls

@@ -31,7 +31,7 @@ zeros-parts k n h =
     ap (λ (m : ℕ). replicate {A = ℕ} m 0) (sym all) ∙ sym (replicate-append-replicate {A = ℕ} k (n - k) 0)
 
 -- a value written over zeros
-pub piece-written : (from n : ℕ) (value : List ℕ) → from + length value ≤ n →
+piece-written : (from n : ℕ) (value : List ℕ) → from + length value ≤ n →
     written from value (replicate n 0) ≡ zeros from ++ value ++ zeros (n - (from + length value))
 unfolding written zeros
 piece-written from n value h =
@@ -41,6 +41,12 @@ piece-written from n value h =
     let behind : drop end (replicate {A = ℕ} n 0) ≡ replicate (n - end) 0 =
     ap (drop end) (zeros-parts end n h) ∙ drop-at (replicate {A = ℕ} end 0) (replicate (n - end) 0) end (length-replicate {A = ℕ} end 0) in
     rw (front, behind)
+
+-- put into an output that was cleared, at its place
+pub piece-put : (from n : ℕ) (value : List ℕ) → from + length value ≤ n → {at : ℕ} {cleared now : List ℕ} → now ≡ written at value cleared →
+    cleared ≡ replicate n 0 → at ≡ from → now ≡ zeros from ++ value ++ zeros (n - (from + length value))
+piece-put from n value h {at} put clear place =
+    put ∙ ap (written at value) clear ∙ ap (λ (k : ℕ). written k value (replicate n 0)) place ∙ piece-written from n value h
 
 -- ONE MORE WORD
 

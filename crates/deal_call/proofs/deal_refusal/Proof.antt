@@ -1,5 +1,6 @@
 -- `deal_call::deal_refusal` meets its contract: each answer is a link of the chain. Assumes nothing.
 use mathlib.Core.Path.{_≡_, sym, _∙_}
+use native.Mathlib.Omega.{arith}
 use Rattle.grid.specs.Grid.{board, board-refusal}
 use Rattle.grid.specs.Code.{board-of}
 use Rattle.entry.specs.Entry.{lent}
@@ -19,7 +20,7 @@ returns c = deal-board _ _ _ (c .before .refusal .ensures) (c .if1 .taken)
 
 returns-2 : tie.Need-returns-2
 unfolding board lent
-returns-2 c = deal-point _ _ (fine (c .before .before)) (c .if2 .taken)
+returns-2 c = deal-point _ _ (fine (c .before .before)) (omega (arith, c .if2 .taken))
 
 lent-fits-requires : tie.Need-lent-fits-requires
 lent-fits-requires c κs = fine (c .before .before)
@@ -28,7 +29,7 @@ returns-3 : tie.Need-returns-3
 unfolding board lent
 returns-3 c =
     let point = c .before .before in
-    deal-lent _ _ (fine (point .before .before)) (point .if2 .left) _ (c .before .lent-fits .ensures) (c .if3 .taken)
+    deal-lent _ _ (fine (point .before .before)) (omega (arith, point .if2 .left)) _ (c .before .lent-fits .ensures) (c .if3 .taken)
 
 arrays-good-requires : tie.Need-arrays-good-requires
 arrays-good-requires c κs =
@@ -40,14 +41,14 @@ unfolding board lent
 returns-4 c =
     let fits = c .before .before in
     let point = fits .before .before in
-    deal-arrays _ _ (fine (point .before .before)) (point .if2 .left) _ (fits .before .lent-fits .ensures) (fits .if3 .left) _ (c .before .arrays-good .ensures) (c .if4 .taken)
+    deal-arrays _ _ (fine (point .before .before)) (omega (arith, point .if2 .left)) _ (fits .before .lent-fits .ensures) (fits .if3 .left) _ (c .before .arrays-good .ensures) (c .if4 .taken)
 
 returns-5 : tie.Need-returns-5
 unfolding board lent
 returns-5 c =
     let fits = c .before .before in
     let point = fits .before .before in
-    deal-none _ _ (fine (point .before .before)) (point .if2 .left) _ (fits .before .lent-fits .ensures) (fits .if3 .left) _ (c .before .arrays-good .ensures) (c .if4 .left)
+    deal-none _ _ (fine (point .before .before)) (omega (arith, point .if2 .left)) _ (fits .before .lent-fits .ensures) (fits .if3 .left) _ (c .before .arrays-good .ensures) (c .if4 .left)
 
 pub deal-refusal-spec : {M : Type 1} → statement M
 deal-refusal-spec =

@@ -47,7 +47,7 @@ unfolding board
 returns-3 c =
     let arrays = c .before in
     let e = arrays .before in
-    other-seeds _ _ _ _ _ _ (counted (e .before .before)) (e .if1 .left) (arrays .if2 .left) (c .if3 .taken)
+    other-seeds _ _ _ _ _ _ (counted (e .before .before)) (e .if1 .left) (arrays .if2 .left) (λ same. omega arith)
 
 sub-result : tie.Need-sub-result
 sub-result c =
@@ -68,7 +68,7 @@ returns-4 c =
     let seeds = c .before in
     let arrays = seeds .before in
     let e = arrays .before in
-    fits-but-words _ _ _ _ _ _ (counted (e .before .before)) (e .if1 .left) (arrays .if2 .left) _ _ (seeds .if3 .left) (e .before .before .before .columns .ensures) (c .row-length .ensures)
+    fits-but-words _ _ _ _ _ _ (counted (e .before .before)) (e .if1 .left) (arrays .if2 .left) _ _ (omega (arith, seeds .if3 .left)) (e .before .before .before .columns .ensures) (c .row-length .ensures)
 
 pub lent-fits-spec : {M : Type 1} → statement M
 lent-fits-spec =

@@ -67,6 +67,27 @@ loop-holds : tie.Need-loop-holds Inv-loop μ-loop
 unfolding keys-from board
 loop-holds c = (omega arith, omega (arith, board-in (board-of (c .before .before .before .before .before .before .before .before .before .before .before .before .before .before .args .board)) (facts (c .before .before .before .before .before .before .before .before .before .before .before .before .before .before) .accepted) .players-least), refl, wrote-nothing _ _)
 
+loop-again : tie.Need-loop-again Inv-loop μ-loop
+unfolding board
+loop-again c =
+    let s = c .before .before .before .before .before .before .before .before .before .before .before .before .before .before .before .before .before .before .before .before .before .before .before .before .before in
+    let l = c .before .before .before .before .before .before .before .before .before .before .loop in
+    let f = c .before .before .before .before .before .before .put-front2 in
+    let w = c .before .before .put-again in (
+      omega arith,
+      omega arith,
+      w .kept .0 ∙ f .kept .0 ∙ l .inv .2,
+      turn (board-of (s .args .board)) (lent-to s) (facts s) _ _ _ _ _ (begun (c .before .before .before .before .before .before .before .before .before .before .before)) (l .player) (l .next) (l .keys) (l .inv .0) (l .inv .3) (omega arith)
+          _ (c .before .before .before .before .before .before .before .before .before .before .before .before .before .before .before .before .before .before .before .row-length .ensures) (f .ensures) (w .ensures) (omega arith),
+    )
+
+returns : tie.Need-returns Inv-loop μ-loop
+unfolding board
+returns c =
+    let s = c .before .before .before .before .before .before .before .before .before .before .before .before .before .before .before .before .before in
+    let l = c .before .before .loop in
+    all-written (board-of (s .args .board)) (lent-to s) (facts s) _ _ _ _ _ (begun (c .before .before .before)) (l .player) (l .next) (l .keys) (omega arith) (l .inv .3)
+
 put-front-requires-2 : tie.Need-put-front-requires-2 Inv-loop μ-loop
 unfolding board
 put-front-requires-2 c κs =
@@ -74,13 +95,16 @@ put-front-requires-2 c κs =
     let f = facts s in
     let l = c .before .before .before .loop in
     let most = board-in (board-of (s .args .board)) (f .accepted) .players-most in
-    (f .accepted, omega arith, f .arrays, f .seeds, next-front-room (board-of (c .before .before .before .before .before .before .before .before .before .before .before .before .before .before .before .before .before .before .args .board)) (lent-to (c .before .before .before .before .before .before .before .before .before .before .before .before .before .before .before .before .before .before)) (facts (c .before .before .before .before .before .before .before .before .before .before .before .before .before .before .before .before .before .before)) _ _ _ _ _ (begun (c .before .before .before .before)) (l .player) (l .next) (l .keys) (l .inv .0) (l .inv .3) _ (omega arith) (omega arith))
+    (f .accepted, omega arith, f .arrays, f .seeds, next-front-room (board-of (s .args .board)) (lent-to s) f _ _ _ _ _ (begun (c .before .before .before .before)) (l .player) (l .next) (l .keys) (l .inv .0) (l .inv .3) _ (omega arith) (omega arith))
 
 put-again-requires : tie.Need-put-again-requires Inv-loop μ-loop
 unfolding board
 put-again-requires c κs =
+    let s = c .before .before .before .before .before .before .before .before .before .before .before .before .before .before .before .before .before .before .before .before .before .before in
+    let f = facts s in
+    let most = board-in (board-of (s .args .board)) (f .accepted) .players-most in
     let l = c .before .before .before .before .before .before .before .loop in
-    let room = again-room (board-of (c .before .before .before .before .before .before .before .before .before .before .before .before .before .before .before .before .before .before .before .before .before .before .args .board)) (lent-to (c .before .before .before .before .before .before .before .before .before .before .before .before .before .before .before .before .before .before .before .before .before .before)) (facts (c .before .before .before .before .before .before .before .before .before .before .before .before .before .before .before .before .before .before .before .before .before .before)) _ _ _ _ _ (begun (c .before .before .before .before .before .before .before .before)) (l .player) (l .next) (l .keys) (l .inv .0) (l .inv .3) _ (omega arith) (omega arith) _ (c .before .before .before .before .before .before .before .before .before .before .before .before .before .before .before .before .row-length .result) _ (c .before .before .before .before .before .before .before .before .before .before .before .before .before .before .before .before .row-length .ensures) (c .before .before .before .put-front2 .ensures) in
+    let room = again-room (board-of (s .args .board)) (lent-to s) f _ _ _ _ _ (begun (c .before .before .before .before .before .before .before .before)) (l .player) (l .next) (l .keys) (l .inv .0) (l .inv .3) _ (omega arith) (omega arith) _ (c .before .before .before .before .before .before .before .before .before .before .before .before .before .before .before .before .row-length .result) _ (c .before .before .before .before .before .before .before .before .before .before .before .before .before .before .before .before .row-length .ensures) (c .before .before .before .put-front2 .ensures) in
     (omega (arith, room .0), omega (arith, room .1))
 
 add-player : tie.Need-add-player Inv-loop μ-loop
@@ -89,26 +113,8 @@ add-player c = omega arith
 loop-less : tie.Need-loop-less Inv-loop μ-loop
 loop-less c = omega arith
 
-loop-again : tie.Need-loop-again Inv-loop μ-loop
-unfolding board
-loop-again c =
-    let l = c .before .before .before .before .before .before .before .before .before .before .loop in
-    let f = c .before .before .before .before .before .before .put-front2 in
-    let w = c .before .before .put-again in (
-      omega arith,
-      omega arith,
-      w .kept .0 ∙ f .kept .0 ∙ l .inv .2,
-      turn (board-of (c .before .before .before .before .before .before .before .before .before .before .before .before .before .before .before .before .before .before .before .before .before .before .before .before .before .args .board)) (lent-to (c .before .before .before .before .before .before .before .before .before .before .before .before .before .before .before .before .before .before .before .before .before .before .before .before .before)) (facts (c .before .before .before .before .before .before .before .before .before .before .before .before .before .before .before .before .before .before .before .before .before .before .before .before .before)) _ _ _ _ _ (begun (c .before .before .before .before .before .before .before .before .before .before .before)) (l .player) (l .next) (l .keys) (l .inv .0) (l .inv .3) (omega arith) _ _ (c .before .before .before .before .before .before .before .before .before .before .before .before .before .before .before .before .before .before .before .row-length .result) _ _ (c .before .before .before .before .before .before .before .before .before .before .before .before .before .before .before .before .before .before .before .row-length .ensures) (f .ensures) (w .ensures),
-    )
-
 same-length : tie.Need-same-length Inv-loop μ-loop
 same-length c = omega arith
-
-returns : tie.Need-returns Inv-loop μ-loop
-unfolding board
-returns c =
-    let l = c .before .before .loop in
-    all-written (board-of (c .before .before .before .before .before .before .before .before .before .before .before .before .before .before .before .before .before .args .board)) (lent-to (c .before .before .before .before .before .before .before .before .before .before .before .before .before .before .before .before .before)) (facts (c .before .before .before .before .before .before .before .before .before .before .before .before .before .before .before .before .before)) _ _ _ _ _ (begun (c .before .before .before)) (l .player) (l .next) (l .keys) (omega arith) (l .inv .3)
 
 pub deal-keys-spec : {M : Type 1} → statement M
 deal-keys-spec =

@@ -11,7 +11,7 @@ use Rattle.keys.specs.Keys.{body-from, mark-bytes}
 use Rattle.writer.specs.Written.{Wrote}
 use Rattle.writer.proofs.Laws.{wrote-nothing}
 use borrow.Author.Needs.{needs}
-use Rattle.held_rows.proofs.RowBytes.{row-here, row-room, row-seeds, row-marks, mark-bytes-most, body-within, rows-turn}
+use Rattle.held_rows.proofs.RowBytes.{row-here, row-room, row-seeds, row-marks, mark-bytes-most, body-within, cut-turn}
 use Rattle.held_rows.proofs.put_rows.Statement.{statement}
 use Rattle.held_rows.proofs.put_rows.Tie as tie
 use Rattle.held_rows.proofs.put_rows.Reads as reads
@@ -49,6 +49,29 @@ grid-rows-requires c κs = search needs
 loop-holds : tie.Need-loop-holds Inv-loop μ-loop
 unfolding body-from
 loop-holds c = (omega arith, refl, wrote-nothing _ _)
+
+loop-again : tie.Need-loop-again Inv-loop μ-loop
+loop-again c =
+    let s = c .before .before .before .before .before .before .before .before .before .before .before .before .before .before in
+    let a = s .args in
+    let b = board-of (a .board) in
+    let l = c .before .before .before .before .before .before .before .before .loop in
+    let J = c .before .before .before .before .before .before .before .before .before .before .columns in
+    let m = c .before .before .before .before .before .mark-bytes in
+    let written = c .before .before .put-row in
+    let within : l .grid-row < grid-rows b = omega (arith, c .before .before .before .before .before .before .before .before .before .grid-rows .ensures) in (
+      omega arith,
+      written .kept .0 ∙ l .inv .1,
+      cut-turn (a .at) (l .grid-row) (grid-rows b) (a .player) (J .result) b (now (a .arrays)) (now (a .seeds)) within (s .pre .4) (J .ensures) (l .inv .2)
+          (written .ensures) (m .ensures) (omega arith),
+    )
+
+returns : tie.Need-returns Inv-loop μ-loop
+returns c =
+    let a = c .before .before .before .before .before .before .before .args in
+    let l = c .before .loop in
+    let all : l .grid-row ≡ grid-rows (board-of (a .board)) = omega (arith, c .before .before .grid-rows .ensures) in
+    subst (λ (k : ℕ). Wrote (a .at) (body-from k (board-of (a .board)) (a .player) (now (a .arrays)) (now (a .seeds))) (l .next) (now (a .out)) (l .out)) all (l .inv .2)
 
 mul-from : tie.Need-mul-from Inv-loop μ-loop
 mul-from c = omega (arith, room c)
@@ -104,31 +127,8 @@ add-grid-row c = omega arith
 loop-less : tie.Need-loop-less Inv-loop μ-loop
 loop-less c = omega arith
 
-loop-again : tie.Need-loop-again Inv-loop μ-loop
-loop-again c =
-    let s = c .before .before .before .before .before .before .before .before .before .before .before .before .before .before in
-    let a = s .args in
-    let b = board-of (a .board) in
-    let l = c .before .before .before .before .before .before .before .before .loop in
-    let J = c .before .before .before .before .before .before .before .before .before .before .columns in
-    let m = c .before .before .before .before .before .mark-bytes in
-    let written = c .before .before .put-row in
-    let within : l .grid-row < grid-rows b = omega (arith, c .before .before .before .before .before .before .before .before .before .grid-rows .ensures) in (
-      omega arith,
-      written .kept .0 ∙ l .inv .1,
-      rows-turn (a .at) (l .grid-row) (grid-rows b) (a .player) b (now (a .arrays)) (now (a .seeds)) within (s .pre .4) (l .inv .2)
-          (rw (row-here (l .grid-row) (J .result) (m .result) (a .player) b (now (a .arrays)) (now (a .seeds)) (J .ensures) (m .ensures)) at (written .ensures)),
-    )
-
 same-length : tie.Need-same-length Inv-loop μ-loop
 same-length c = c .before .loop .inv .1
-
-returns : tie.Need-returns Inv-loop μ-loop
-returns c =
-    let a = c .before .before .before .before .before .before .before .args in
-    let l = c .before .loop in
-    let all : l .grid-row ≡ grid-rows (board-of (a .board)) = omega (arith, c .before .before .grid-rows .ensures) in
-    subst (λ (k : ℕ). Wrote (a .at) (body-from k (board-of (a .board)) (a .player) (now (a .arrays)) (now (a .seeds))) (l .next) (now (a .out)) (l .out)) all (l .inv .2)
 
 pub put-rows-spec : {M : Type 1} → statement M
 put-rows-spec =

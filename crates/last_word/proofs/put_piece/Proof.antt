@@ -1,12 +1,9 @@
 -- `last_word::put_piece` meets its contract. Assumes nothing.
-use mathlib.Core.Path.{ap, _∙_}
-use mathlib.Core.List.{List}
-use Prim.Native.Nat.{ℕ}
+use native.Mathlib.Omega.{arith}
 use lib.ListN.{length}
 use denote.Ref.{now}
-use Rattle.writer.specs.Written.{written}
 use borrow.Author.Needs.{needs}
-use Rattle.last_word.proofs.LastWord.{piece-written}
+use Rattle.last_word.proofs.LastWord.{piece-put}
 use Rattle.last_word.proofs.put_piece.Statement.{statement}
 use Rattle.last_word.proofs.put_piece.Tie as tie
 use Rattle.last_word.proofs.put_piece.Reads as reads
@@ -27,8 +24,8 @@ returns : tie.Need-returns
 returns c =
     let s = c .before .before .before .before .before .before .before .before .before .before in
     let a = s .args in
-    c .before .before .put .ensures .now-is ∙ ap (λ (l : List ℕ). written (a .from) (now (a .value)) l) (c .before .before .before .before .before .before .clear .ensures)
-    ∙ piece-written (a .from) (length (now (a .out))) (now (a .value)) (s .pre)
+    piece-put (a .from) (length (now (a .out))) (now (a .value)) (s .pre) (c .before .before .put .ensures .now-is)
+    (c .before .before .before .before .before .before .clear .ensures) (omega arith)
 
 pub put-piece-spec : {M : Type 1} → statement M
 put-piece-spec = tie.close (tie.spec clear-requires put-requires same-length returns)

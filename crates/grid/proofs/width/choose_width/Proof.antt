@@ -5,7 +5,7 @@ use mathlib.Core.Path.{_≡_, refl, sym, _∙_, ap}
 use Prim.Native.Nat.{ℕ, _*_, _-_, _^_, _≤_}
 use native.Mathlib.Omega.{arith}
 use Rattle.grid.specs.Width.{width, width-from}
-use Rattle.grid.proofs.Widths.{width-here, width-next, width-last, square-fits, product-fits}
+use Rattle.grid.proofs.Widths.{width-found, width-next, width-last, square-fits, product-fits}
 use Rattle.grid.proofs.width.choose_width.Statement.{statement}
 use Rattle.grid.proofs.width.choose_width.Tie as tie
 
@@ -34,7 +34,7 @@ mul-if1 : tie.Need-mul-if1 Inv-loop μ-loop
 mul-if1 c = record { fits = square-fits _ (omega arith) }
 
 returns : tie.Need-returns Inv-loop μ-loop
-returns c = sym (width-here _ _ _ (c .if1 .taken)) ∙ c .before .before .loop .inv .2
+returns c = width-found _ _ _ (c .before .before .loop .inv .2) (omega (arith, c .if1 .taken))
 
 add-wide : tie.Need-add-wide Inv-loop μ-loop
 add-wide c = omega arith

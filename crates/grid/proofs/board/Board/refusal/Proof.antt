@@ -5,41 +5,27 @@ use borrow.Author.Tests.{lt-ltb, le-ltb}
 use mathlib.Core.Path.{_≡_, sym, _∙_, ap}
 use mathlib.Core.Bool.{true, false}
 use Prim.Native.Nat.{ℕ}
+use native.Mathlib.Omega.{arith}
 use lib.Dec.{ltb}
 use Rattle.grid.specs.Grid.{board, grid-rows}
 use Rattle.grid.proofs.Refusing.{In, in-range, passed, failed, refused-1, refused-2, refused-3, refused-4, refused-5, refused-0}
 use Rattle.grid.proofs.board.Board.refusal.Statement.{statement}
 use Rattle.grid.proofs.board.Board.refusal.Tie as tie
 
--- what each test has shown where it was passed
-players-in : (c : tie.Else1) → In 2 (c .before .before .args .self .players) 6
-players-in c = passed (c .before .within .ensures) (c .if1 .left)
-
-positions-in : (c : tie.Else2) → In 1 (c .before .before .before .before .args .self .positions) 65536
-positions-in c = passed (c .before .within2 .ensures) (c .if2 .left)
-
-width-in : (c : tie.Else3) → In 1 (c .before .before .before .before .before .before .args .self .width) 256
-width-in c = passed (c .before .within3 .ensures) (c .if3 .left)
-
-bytes-in : (c : tie.Else4) → In 1 (c .before .before .before .before .before .before .before .before .args .self .«value_bytes») 16
-bytes-in c = passed (c .before .within4 .ensures) (c .if4 .left)
-
-within-requires : tie.Need-within-requires
-within-requires c κs = search needs
-
+-- Each return, and what its test has shown where it was passed
 returns : tie.Need-returns
 unfolding board
 returns c = refused-1 _ (failed (c .before .within .ensures) (c .if1 .taken))
 
-within-requires-2 : tie.Need-within-requires-2
-within-requires-2 c κs = search needs
+players-in : (c : tie.Else1) → In 2 (c .before .before .args .self .players) 6
+players-in c = passed (c .before .within .ensures) (c .if1 .left)
 
 returns-2 : tie.Need-returns-2
 unfolding board
 returns-2 c = refused-2 _ (players-in (c .before .before)) (failed (c .before .within2 .ensures) (c .if2 .taken))
 
-within-requires-3 : tie.Need-within-requires-3
-within-requires-3 c κs = search needs
+positions-in : (c : tie.Else2) → In 1 (c .before .before .before .before .args .self .positions) 65536
+positions-in c = passed (c .before .within2 .ensures) (c .if2 .left)
 
 returns-3 : tie.Need-returns-3
 unfolding board
@@ -48,8 +34,8 @@ returns-3 c =
     refused-3 _ (players-in (before .before .before)) (positions-in before)
     (failed (c .before .within3 .ensures) (c .if3 .taken))
 
-within-requires-4 : tie.Need-within-requires-4
-within-requires-4 c κs = search needs
+width-in : (c : tie.Else3) → In 1 (c .before .before .before .before .before .before .args .self .width) 256
+width-in c = passed (c .before .within3 .ensures) (c .if3 .left)
 
 returns-4 : tie.Need-returns-4
 unfolding board
@@ -59,11 +45,8 @@ returns-4 c =
     refused-4 _ (players-in (earlier .before .before)) (positions-in earlier) (width-in before)
     (failed (c .before .within4 .ensures) (c .if4 .taken))
 
-rows-for-requires : tie.Need-rows-for-requires
-rows-for-requires c κs =
-    let width = in-range _ _ _ (width-in (c .before .before)) in
-    let positions = in-range _ _ _ (positions-in (c .before .before .before .before)) in
-    (positions .1, width .0, width .1)
+bytes-in : (c : tie.Else4) → In 1 (c .before .before .before .before .before .before .before .before .args .self .«value_bytes») 16
+bytes-in c = passed (c .before .within4 .ensures) (c .if4 .left)
 
 returns-5 : tie.Need-returns-5
 unfolding board grid-rows
@@ -72,7 +55,7 @@ returns-5 c =
     let width = bytes .before .before in
     let positions = width .before .before in
     refused-5 _ (players-in (positions .before .before)) (positions-in positions) (width-in width) (bytes-in bytes)
-    (sym (ap (λ (rows : ℕ). ltb 256 rows) (c .before .rows-for .ensures)) ∙ lt-ltb _ _ (c .if5 .taken))
+    (sym (ap (λ (rows : ℕ). ltb 256 rows) (c .before .rows-for .ensures)) ∙ lt-ltb 256 (c .before .rows-for .result) (omega (arith, c .if5 .taken)))
 
 returns-6 : tie.Need-returns-6
 unfolding board grid-rows
@@ -81,7 +64,25 @@ returns-6 c =
     let width = bytes .before .before in
     let positions = width .before .before in
     refused-0 _ (players-in (positions .before .before)) (positions-in positions) (width-in width) (bytes-in bytes)
-    (sym (ap (λ (rows : ℕ). ltb 256 rows) (c .before .rows-for .ensures)) ∙ le-ltb _ _ (c .if5 .left))
+    (sym (ap (λ (rows : ℕ). ltb 256 rows) (c .before .rows-for .ensures)) ∙ le-ltb 256 (c .before .rows-for .result) (omega (arith, c .if5 .left)))
+
+within-requires : tie.Need-within-requires
+within-requires c κs = search needs
+
+within-requires-2 : tie.Need-within-requires-2
+within-requires-2 c κs = search needs
+
+within-requires-3 : tie.Need-within-requires-3
+within-requires-3 c κs = search needs
+
+within-requires-4 : tie.Need-within-requires-4
+within-requires-4 c κs = search needs
+
+rows-for-requires : tie.Need-rows-for-requires
+rows-for-requires c κs =
+    let width = in-range _ _ _ (width-in (c .before .before)) in
+    let positions = in-range _ _ _ (positions-in (c .before .before .before .before)) in
+    (positions .1, width .0, width .1)
 
 pub refusal-spec : {M : Type 1} → statement M
 refusal-spec =
