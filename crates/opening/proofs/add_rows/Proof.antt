@@ -101,7 +101,7 @@ loop-again c =
     let new = done .add-part .last .1 .1 .1 .0 in
     let room = part-whole at size (l .out) (end-within n) in
     let count = part-long at size in (
-      omega arith,
+      omega (arith, inside (n .before), m .before .grid-rows .ensures),
       same-len-mid at (at + size - at) (l .out) new (done .add-part .kept .1 .1 .1 .0) ∙ l .inv .1,
       row-added b (expand (row-long b)) (body s) (board-known s) (expansion b) (body-known m) (l .grid-row) (inside (n .before)) (now (s .args .out)) (l .out) _ new at (at + size - at) _
           (at-is (n .before)) (count ∙ count-is b (board-known s) (l .grid-row) (inside (n .before)) _ _ size (m .row-length .ensures) (l .inv .1 ∙ out-long s) (n .least .ensures)) (l .inv .2)
@@ -163,7 +163,9 @@ add-grid-row : tie.Need-add-grid-row Inv-loop μ-loop
 add-grid-row c = omega arith
 
 loop-less : tie.Need-loop-less Inv-loop μ-loop
-loop-less c = omega arith
+loop-less c =
+    let n = c .before .before .before .before .before in
+    omega (arith, inside (n .before), n .before .before .before .before .grid-rows .ensures)
 
 same-length : tie.Need-same-length Inv-loop μ-loop
 same-length c = omega arith

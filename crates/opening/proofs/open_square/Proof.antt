@@ -89,16 +89,16 @@ row-part-requires : tie.Need-row-part-requires
 row-part-requires c κs = let s = c .before .before .before .before .before .before .before in (s .pre .0, inside s)
 
 array-borrow-prefix-scratch : tie.Need-array-borrow-prefix-scratch
-array-borrow-prefix-scratch c = cell-small (c .before .before .before .before .before .before .before .before)
+array-borrow-prefix-scratch c = omega (arith, cell-small (c .before .before .before .before .before .before .before .before))
 
 slice-aggregate-open-part : tie.Need-slice-aggregate-open-part
-slice-aggregate-open-part c = prefix-long _ _ (cell-small (c .before .before .before .before .before .before .before .before .before))
+slice-aggregate-open-part c = prefix-long _ _ (omega (arith, cell-small (c .before .before .before .before .before .before .before .before .before)))
 
 slice-relend-prefix-open-part : tie.Need-slice-relend-prefix-open-part
-slice-relend-prefix-open-part c = c .before .before .before .before .before .before .before .before .before .pre .2
+slice-relend-prefix-open-part c = omega (arith, c .before .before .before .before .before .before .before .before .before .pre .2)
 
 slice-aggregate-open-part-2 : tie.Need-slice-aggregate-open-part-2
-slice-aggregate-open-part-2 c = let s = c .before .before .before .before .before .before .before .before .before .before in prefix-long _ (now (s .args .out)) (s .pre .2)
+slice-aggregate-open-part-2 c = let s = c .before .before .before .before .before .before .before .before .before .before in prefix-long _ (now (s .args .out)) (omega (arith, s .pre .2))
 
 open-part-requires : tie.Need-open-part-requires
 open-part-requires c κs =
@@ -109,7 +109,7 @@ open-part-requires c κs =
       inside s,
       part-length (its-board s) _ (body-known known) _ (inside s) _ (p .row-part .ensures),
       part-marks (its-board s) _ (body-known known) _ (inside s) _ (p .row-part .ensures),
-      scratch-zeros _ _ (now (s .args .out)) (cell-small s) (s .pre .2),
+      scratch-zeros _ _ (now (s .args .out)) (omega (arith, cell-small s)) (omega (arith, s .pre .2)),
       omega (arith, prefix-long _ (now (s .args .out)) (s .pre .2), cell-room s),
     )
 
