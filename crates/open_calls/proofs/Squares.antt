@@ -70,15 +70,16 @@ module _ (ks : List ℕ) (a : ℕ) (o : List ℕ) where
     one-number =
         let n = h .board .positions in
         let w = h .board .«value_bytes» in
-        next-fits (key-refusal ks) _ (key .none) ∙ rw (key .board-is) (rw (room-number (length o) w (decLe w (length o))) (place-number n a _ (omega arith) (decLe n a)))
+        let room = room-number (length o) w (decLe w (length o)) in
+        next-fits (key-refusal ks) _ (key .none) ∙ rw (key .board-is) (rw room (place-number n a _ (omega arith) (decLe n a)))
 
     pub one-refused : (r : ℕ) → r ≡ one-due → (r ≡ 0 → ⊥) → Open-one-says ks a r o o
     unfolding Open-one-says
     one-refused r due some = put-number _ r _ o (one-number ∙ sym due) some
 
     -- the square whose share was written is the one asked for
-    pub one-opened : (r : ℕ) (z : List ℕ) (square : ℕ) → z ≡ Opening.in-front (opened (expand (row-long (board-of (h .board)))) ks square) o → square ≡ a → r ≡ 0 →
-        r ≡ one-due → Open-one-says ks a r o z
+    pub one-opened : (r : ℕ) (z : List ℕ) (square : ℕ) → z ≡ Opening.in-front (opened (expand (row-long (board-of (h .board)))) ks square) o →
+        square ≡ a → r ≡ 0 → r ≡ one-due → Open-one-says ks a r o z
     unfolding Open-one-says in-front key-rule rule
     one-opened r z square e same done due =
         put-done _ _ r o z (one-number ∙ sym due ∙ done) done
@@ -98,6 +99,7 @@ module _ (ks : List ℕ) (a : ℕ) (o : List ℕ) where
     unfolding Open-all-says
     all-refused r due some = put-number _ r _ o (all-number ∙ sym due) some
 
-    pub all-opened : (r : ℕ) (z : List ℕ) → z ≡ Opening.in-front (table (expand (row-long (board-of (h .board)))) ks) o → r ≡ 0 → r ≡ all-due → Open-all-says ks r o z
+    pub all-opened : (r : ℕ) (z : List ℕ) → z ≡ Opening.in-front (table (expand (row-long (board-of (h .board)))) ks) o →
+        r ≡ 0 → r ≡ all-due → Open-all-says ks r o z
     unfolding Open-all-says in-front key-rule rule
     all-opened r z e done due = put-done _ _ r o z (all-number ∙ sym due ∙ done) done (rw (key .board-is) e)

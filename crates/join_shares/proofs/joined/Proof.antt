@@ -1,6 +1,6 @@
 -- `join_calls::shares::joined` meets its contract. The loop's invariant: the shares from place `end` on are joined. Assumes nothing.
 use mathlib.Core.Path.{_≡_, refl, sym, ap, _∙_}
-use Prim.Native.Nat.{ℕ, _*_, _-_, _≤_}
+use Prim.Native.Nat.{ℕ, _*_, _-_, _≤_, _<_}
 use native.Mathlib.Omega.{arith}
 use lib.ListN.{length, drop}
 use denote.Ref.{now}
@@ -71,7 +71,8 @@ loop-again c =
     let p = added .before .before .before in
     let l = p .before .loop in
     let a = p .before .before .before .before .before .before .before .before .args in
-    let more = share-more (a .players) (l .player) _ _ (l .end) (now (a .shares)) (l .out) (omega (arith, p .loop-test)) (l .inv .0) (l .inv .1) refl (l .inv .3) in
+    let some : 0 < l .player = omega (arith, p .loop-test) in
+    let more = share-more (a .players) (l .player) _ _ (l .end) (now (a .shares)) (l .out) some (l .inv .0) (l .inv .1) refl (l .inv .3) in
     (omega arith, more .0, added .xor-into .kept .0 ∙ l .inv .2, added .xor-into .ensures ∙ more .1, l .inv .4)
 
 same-length : tie.Need-same-length Inv-loop μ-loop

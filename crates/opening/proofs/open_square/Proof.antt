@@ -28,8 +28,8 @@ returns c =
     let s = p .before .before .before .before .before .before .before .before in
     let written = done .open-part .last .1 .1 .1 .1 .1 .0 in
     put-in-front written _ (now (s .args .out)) _
-    (square-written (now (s .args .key)) (its-board s) (s .pre .0 .accepted) (s .pre .0 .board-is) _ written _ (s .args .position) _ _ _ (done .open-part .ensures)
-    (p .row-part .ensures) refl refl (sym (prefix-long _ (now (s .args .out)) (s .pre .2))))
+    (square-written (now (s .args .key)) (its-board s) (s .pre .0 .accepted) (s .pre .0 .board-is) _ written _ (s .args .position) _ _ _
+    (done .open-part .ensures) (p .row-part .ensures) refl refl (sym (prefix-long _ (now (s .args .out)) (s .pre .2))))
     (s .pre .2) (done .open-part .kept .1 .1 .1 .1 .1 .0)
 
 -- the key's board is accepted
@@ -98,7 +98,9 @@ slice-relend-prefix-open-part : tie.Need-slice-relend-prefix-open-part
 slice-relend-prefix-open-part c = omega (arith, c .before .before .before .before .before .before .before .before .before .pre .2)
 
 slice-aggregate-open-part-2 : tie.Need-slice-aggregate-open-part-2
-slice-aggregate-open-part-2 c = let s = c .before .before .before .before .before .before .before .before .before .before in prefix-long _ (now (s .args .out)) (omega (arith, s .pre .2))
+slice-aggregate-open-part-2 c =
+    let s = c .before .before .before .before .before .before .before .before .before .before in
+    prefix-long _ (now (s .args .out)) (omega (arith, s .pre .2))
 
 open-part-requires : tie.Need-open-part-requires
 open-part-requires c κs =

@@ -37,7 +37,8 @@ loop-again c =
     let a = c .before .before .before .before .before .before .before .before .before .before .before .before .args in
     let n = length (now (a .out)) in
     let put = c .before .before .before .xor-four in
-    (omega arith, put .kept .1 .1 .0 ∙ l .inv .1, put .kept .1 .0 ∙ l .inv .2, four-more (now (a .seeds)) (l .taken) n (now (a .out)) (length (l .out)) _ (l .inv .1) (l .inv .3) (put .ensures) (omega arith))
+    let more = four-more (now (a .seeds)) (l .taken) n (now (a .out)) (length (l .out)) _ (l .inv .1) (l .inv .3) (put .ensures) in
+    (omega arith, put .kept .1 .1 .0 ∙ l .inv .1, put .kept .1 .0 ∙ l .inv .2, more (omega arith))
 
 sub-loop : tie.Need-sub-loop Inv-loop μ-loop
 sub-loop c = omega arith

@@ -41,8 +41,9 @@ loop-holds c = (refl, omega arith, refl)
 loop-again : tie.Need-loop-again Inv-loop μ-loop
 loop-again c =
     let l = c .before .before .before .loop in
-    let turned = turn (l .out) _ _ (l .i) (c .before .before .before .before .pre) (omega arith) (l .inv .0) (c .before .slice-known .given (l .i) .fits) (c .shared-slice-known .given (l .i) .fits) in
-    (turned, omega arith, simp length-set (l .inv .2))
+    let byte = c .before .slice-known .given (l .i) .fits in
+    let row-byte = c .shared-slice-known .given (l .i) .fits in
+    (turn (l .out) _ _ (l .i) (c .before .before .before .before .pre) (omega arith) (l .inv .0) byte row-byte, omega arith, simp length-set (l .inv .2))
 
 slice-read-out : tie.Need-slice-read-out Inv-loop μ-loop
 slice-read-out c = omega arith
