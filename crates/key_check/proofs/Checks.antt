@@ -1,9 +1,10 @@
 -- The chain of a key's refusals, 10, 1 to 5, 11, 12, 13: what each test answers, and what an accepted key keeps to.
 -- Assumes nothing.
-use mathlib.Core.Path.{_≡_, _∙_}
+use mathlib.Core.Path.{_≡_, sym, _∙_}
 use mathlib.Core.Bool.{Bool, true, false, not, cond}
 use mathlib.Core.List.{List, [], _∷_}
-use Prim.Native.Nat.{ℕ, _+_, _*_, _≤_, _<_}
+use Prim.Native.Nat.{ℕ, suc, _+_, _*_, _-_, _≤_, _<_, min}
+use native.Mathlib.Decide.{decLe}
 use native.Mathlib.Omega.{arith}
 use borrow.Author.Tests.{eq-eqb, ne-eqb, le-leb, lt-leb, not-true, not-false}
 use lib.Dec.{eqb, leb}
@@ -44,12 +45,12 @@ module _ (ks : List ℕ) (h : Header) (next : Reader) (read : Heading.Whole h ne
   unfolding key-refusal behind b
   chain = rw (heading-says ks h next read)
 
-  pub refused-board : (n : ℕ) → n ≡ board-refusal (board-of (h .board)) → (n ≡ 0 → ⊥) → checked-as (KeyCheck.Refused n) ≡ key-checked ks
+  refused-board : (n : ℕ) → n ≡ board-refusal (board-of (h .board)) → (n ≡ 0 → ⊥) → checked-as (KeyCheck.Refused n) ≡ key-checked ks
   unfolding behind b
   refused-board n e z = refused-as ks n (chain ∙ rw (← e, ne-eqb n 0 z)) z
 
   module _ (accepted : board-refusal (board-of (h .board)) ≡ 0) where
-    pub refused-player : h .board .players ≤ h .player → checked-as (KeyCheck.Refused 11) ≡ key-checked ks
+    refused-player : h .board .players ≤ h .player → checked-as (KeyCheck.Refused 11) ≡ key-checked ks
     unfolding behind b board
     refused-player p = refused-as ks 11 (chain ∙ rw (accepted, le-leb (h .board .players) (h .player) p)) (λ q. omega arith)
 
@@ -79,3 +80,21 @@ module _ (ks : List ℕ) (h : Header) (next : Reader) (read : Heading.Whole h ne
           accepted-key z =
               let none : key-refusal ks ≡ 0 = chain-own ∙ rw (← k, eq-eqb (length ks) long same, ← cut, ← seen, not-false marks z) in
               rw (none, heading-says ks h next read)
+
+-- 1 to 5 or 11, the first that fits, as a sum by which `omega` weighs the number answered
+module _ (ks : List ℕ) (h : Header) (next : Reader) (read : Heading.Whole h next ≡ heading-in ks) where
+  abbrev early : (board : ℕ) → ℕ
+  early r = r + 11 * (min 1 (suc (h .player) - h .board .players) - min 1 r)
+
+  early-by : (n r : ℕ) → Dec (1 ≤ r) → r ≡ board-refusal (board-of (h .board)) → n ≡ early r → (n ≡ 0 → ⊥) → checked-as (KeyCheck.Refused n) ≡ key-checked ks
+  early-by n r (yes some) e due refused =
+      let same : n ≡ r = omega arith in
+      rw same (refused-board ks h next read r e (λ z. omega arith))
+  early-by n r (no none) e due refused =
+      let accepted : r ≡ 0 = omega arith in
+      let beyond : h .board .players ≤ h .player = omega arith in
+      let same : n ≡ 11 = omega arith in
+      rw same (refused-player ks h next read (sym e ∙ accepted) beyond)
+
+  pub refused-early : (n r : ℕ) → r ≡ board-refusal (board-of (h .board)) → n ≡ early r → (n ≡ 0 → ⊥) → checked-as (KeyCheck.Refused n) ≡ key-checked ks
+  refused-early n r = early-by n r (decLe 1 r)

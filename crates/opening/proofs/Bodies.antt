@@ -81,6 +81,8 @@ module _ (ks : List ℕ) (b : Board) (accepted : key-refusal ks ≡ 0) (read : h
   unfolding opened
   opened-is f a = sym (ap (λ (c : Board). opened-part c f (row-part c (head-in ks .rest) (a / c .wide)) a) read)
 
-  pub square-is : (f : List ℕ → List ℕ) (part : List ℕ) (a n : ℕ) → part ≡ row-part b (head-in ks .rest) (a / b .wide) → n ≡ b .w →
-      shares b f part (a / b .wide) (a % b .wide * b .w) n ≡ opened f ks a
-  square-is f part a n p w = rw (p, w) (sym (opened-shares b f (row-part b (head-in ks .rest) (a / b .wide)) a) ∙ opened-is f a)
+  -- what is written is the square's share: its grid row, its place there and its length are the code's numbers
+  pub square-written : (f : List ℕ → List ℕ) (written part : List ℕ) (a g from n : ℕ) → written ≡ shares b f part g from n →
+      part ≡ row-part b (head-in ks .rest) g → g ≡ a / b .wide → from ≡ a % b .wide * b .w → n ≡ b .w → written ≡ opened f ks a
+  square-written f written part a g from n is p row place w =
+      is ∙ rw (p, row, place, w) (sym (opened-shares b f (row-part b (head-in ks .rest) (a / b .wide)) a) ∙ opened-is f a)

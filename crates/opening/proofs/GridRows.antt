@@ -163,10 +163,9 @@ module _ (b : Board) (f : List ℕ → List ℕ) (bs : List ℕ) (board : Board-
       record { bytes = rw (after, end, table-is) (add-behind front row old out new at count front-long within so-far-is (is ∙ rw row-is)) }
 
 -- after the last one the whole table is XORed in
-pub all-added : (b : Board) (f : List ℕ → List ℕ) (bs old out : List ℕ) (g : ℕ) → Board-in b → grid-rows b ≤ g → g ≤ grid-rows b → length old ≡ b .n * b .w →
-    Added b f bs old out g → out ≡ xors old (table-from (b .n) 0 b f (parts-of b bs))
-all-added b f bs old out g board past within long so-far =
-    let last : g ≡ grid-rows b = omega arith in
+pub all-added : (b : Board) (f : List ℕ → List ℕ) (bs old out : List ℕ) (g : ℕ) → Board-in b → length old ≡ b .n * b .w → Added b f bs old out g →
+    g ≡ grid-rows b → out ≡ xors old (table-from (b .n) 0 b f (parts-of b bs))
+all-added b f bs old out g board long so-far last =
     let all : squares-before b g ≡ b .n = rw last (omega (arith, rows-cover b board)) in
     let short : length old ≤ b .n * b .w = omega arith in
     let none : drop (b .n * b .w) old ≡ [] = drop-of-length-le old short in

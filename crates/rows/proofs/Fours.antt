@@ -47,10 +47,11 @@ module _ (ss : List ℕ) (taken : ℕ) where
   four-long h = rw part (length-take-le 128 (drop (32 * taken) ss) (omega (arith, length-drop (32 * taken) ss)))
 
   -- a turn of the loop: four seeds more
-  pub four-more : (n : ℕ) (old : List ℕ) {out new : List ℕ} (had : ℕ) → had ≡ n → out ≡ xors old (rows-joined taken n ss) →
-      new ≡ xors out (rows-joined 4 had (take (32 * taken + 4 * 32 - 32 * taken) (drop (32 * taken) ss))) → new ≡ xors old (rows-joined (taken + 4) n ss)
-  four-more n old {out} {new} had e so-far is =
-      is ∙ rw (so-far, e, part, rows-of-front 4 n 128 (drop (32 * taken) ss) (omega arith), rows-add taken 4 n ss)
+  pub four-more : (n : ℕ) (old : List ℕ) {out new : List ℕ} (had after : ℕ) → had ≡ n → out ≡ xors old (rows-joined taken n ss) →
+      new ≡ xors out (rows-joined 4 had (take (32 * taken + 4 * 32 - 32 * taken) (drop (32 * taken) ss))) →
+      after ≡ taken + 4 → new ≡ xors old (rows-joined after n ss)
+  four-more n old {out} {new} had after e so-far is next =
+      is ∙ rw (so-far, e, part, next, rows-of-front 4 n 128 (drop (32 * taken) ss) (omega arith), rows-add taken 4 n ss)
       (xors-assoc old (rows-joined taken n ss) (rows-joined 4 n (drop (32 * taken) ss)))
 
   -- the seeds behind those taken by fours

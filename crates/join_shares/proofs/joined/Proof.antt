@@ -1,6 +1,6 @@
 -- `join_calls::shares::joined` meets its contract. The loop's invariant: the shares from place `end` on are joined. Assumes nothing.
 use mathlib.Core.Path.{_≡_, refl, sym, ap, _∙_}
-use Prim.Native.Nat.{ℕ, _*_, _-_, _≤_}
+use Prim.Native.Nat.{ℕ, _*_, _-_, _≤_, _<_}
 use native.Mathlib.Omega.{arith}
 use lib.ListN.{length, drop}
 use denote.Ref.{now}
@@ -17,11 +17,19 @@ Inv-loop players shares out₀ share player₀ end₀ out player end =
 abbrev μ-loop : tie.MeasureT-loop
 μ-loop players shares out₀ share player₀ end₀ out player end = player
 
+-- behind the loop no share is left
+returns : tie.Need-returns Inv-loop μ-loop
+returns c =
+    let l = c .before .loop in
+    let cleared = c .before .before .before .before in
+    joined-all _ (l .player) _ (l .end) _ (now (cleared .before .before .before .before .args .shares)) (l .out) (omega (arith, c .loop-test)) (l .inv .1)
+    (cleared .clear .kept .0) (l .inv .3)
+
 -- the share before `end` stands among the shares
 within-shares : (c : tie.In-loop Inv-loop μ-loop) → (length (c .before .loop .out) ≤ c .before .loop .end)
     × (c .before .loop .end ≤ length (now (c .before .before .before .before .before .before .before .before .args .shares)))
 within-shares c =
-    let l = c .before .loop in inside (l .inv .2) (c .loop-test .taken) (l .inv .0) (l .inv .1) (l .inv .4)
+    let l = c .before .loop in inside (l .inv .2) (omega (arith, c .loop-test)) (l .inv .0) (l .inv .1) (l .inv .4)
 
 clear-requires : tie.Need-clear-requires Inv-loop μ-loop
 clear-requires c κs = search needs
@@ -63,18 +71,12 @@ loop-again c =
     let p = added .before .before .before in
     let l = p .before .loop in
     let a = p .before .before .before .before .before .before .before .before .args in
-    let more = share-more (a .players) (l .player) _ _ (l .end) (now (a .shares)) (l .out) (p .loop-test .taken) (l .inv .0) (l .inv .1) refl (l .inv .3) in
+    let some : 0 < l .player = omega (arith, p .loop-test) in
+    let more = share-more (a .players) (l .player) _ _ (l .end) (now (a .shares)) (l .out) some (l .inv .0) (l .inv .1) refl (l .inv .3) in
     (omega arith, more .0, added .xor-into .kept .0 ∙ l .inv .2, added .xor-into .ensures ∙ more .1, l .inv .4)
 
 same-length : tie.Need-same-length Inv-loop μ-loop
 same-length c = c .before .loop .inv .2 ∙ c .before .before .before .before .clear .kept .0
-
-returns : tie.Need-returns Inv-loop μ-loop
-returns c =
-    let l = c .before .loop in
-    let cleared = c .before .before .before .before in
-    joined-all _ (l .player) _ (l .end) _ (now (cleared .before .before .before .before .args .shares)) (l .out) (c .loop-test .left) (l .inv .1)
-    (cleared .clear .kept .0) (l .inv .3)
 
 pub joined-spec : {M : Type 1} → statement M
 joined-spec =

@@ -36,7 +36,7 @@ returns-3 c = shares-7 _ _ _ _ (players-in (c .before .before .before)) (bytes-i
 
 returns-4 : tie.Need-returns-4
 returns-4 c =
-    let long = c .before in shares-9 _ _ _ _ (players-in (long .before .before .before)) (bytes-in (long .before)) (long .if3 .left) (c .if4 .taken)
+    let long = c .before in shares-9 _ _ _ _ (players-in (long .before .before .before)) (bytes-in (long .before)) (long .if3 .left) (omega (arith, c .if4))
 
 returns-5 : tie.Need-returns-5
 returns-5 c =

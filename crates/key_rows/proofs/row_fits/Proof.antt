@@ -7,6 +7,12 @@ use borrow.Author.Needs.{needs}
 use Rattle.key_rows.proofs.row_fits.Statement.{statement}
 use Rattle.key_rows.proofs.row_fits.Tie as tie
 
+returns-2 : tie.Need-returns-2
+returns-2 c =
+    let k = c .before .before .before in
+    row-fit _ _ _ _ _ _ (k .before .columns .ensures) (c .before .mark-bytes .ensures) (k .marks-between .ensures) (omega (arith, c .before .before .if1))
+    (c .marks-between2 .ensures)
+
 columns-requires : tie.Need-columns-requires
 columns-requires c κs = search needs
 
@@ -15,7 +21,7 @@ marks-between-requires c κs = search needs
 
 returns : tie.Need-returns
 returns c =
-    let k = c .before in row-unfit _ _ _ _ (k .before .columns .ensures) (k .marks-between .ensures) (c .if1 .taken)
+    let k = c .before in row-unfit _ _ _ _ (k .before .columns .ensures) (k .marks-between .ensures) (omega (arith, c .if1))
 
 mark-bytes-requires : tie.Need-mark-bytes-requires
 mark-bytes-requires c κs = search needs
@@ -27,12 +33,6 @@ mul-bits c =
 
 marks-between-requires-2 : tie.Need-marks-between-requires-2
 marks-between-requires-2 c κs = search needs
-
-returns-2 : tie.Need-returns-2
-returns-2 c =
-    let k = c .before .before .before in
-    row-fit _ _ _ _ _ _ (k .before .columns .ensures) (c .before .mark-bytes .ensures) (k .marks-between .ensures) (c .before .before .if1 .left)
-    (c .marks-between2 .ensures)
 
 pub row-fits-spec : {M : Type 1} → statement M
 row-fits-spec =

@@ -1,10 +1,21 @@
 -- `nosingginger::choose_width` meets its contract. Assumes nothing.
-use mathlib.Core.Path.{_∙_}
-use Rattle.grid.proofs.Refusing.{In, in-range, passed, failed}
+use mathlib.Core.Path.{_≡_, _∙_}
+use Prim.Native.Nat.{ℕ}
+use Rattle.grid.proofs.Refusing.{In, Out, in-range, passed, failed}
+use Rattle.entry.specs.Entry.{Width-says}
+use Rattle.entry.specs.declared.Answer.{Answer}
 use Rattle.entry.proofs.Answering.{width-refused-1, width-refused-2, width-given}
 use borrow.Author.Needs.{needs}
 use Rattle.nosingginger.proofs.choose_width.Statement.{statement}
 use Rattle.nosingginger.proofs.choose_width.Tie as tie
+
+-- the number asked first is 1
+first-refused : (p n : ℕ) (r : Answer) → r .refusal ≡ 1 → r .value ≡ 0 → Out 2 p 6 → Width-says p n r
+first-refused p n r number value out = width-refused-1 p n r out number value
+
+returns : tie.Need-returns
+returns c =
+    first-refused _ _ _ (c .refused .ensures .0) (c .refused .ensures .1) (failed (c .before .before .within .ensures) (c .before .if1 .taken))
 
 -- what each test has shown where it was passed
 players-in : (c : tie.Else1) → In 2 (c .before .before .args .players) 6
@@ -18,10 +29,6 @@ within-requires c κs = search needs
 
 refused-requires : tie.Need-refused-requires
 refused-requires c κs = search needs
-
-returns : tie.Need-returns
-returns c =
-    width-refused-1 _ _ _ (failed (c .before .before .within .ensures) (c .before .if1 .taken)) (c .refused .ensures .0) (c .refused .ensures .1)
 
 within-requires-2 : tie.Need-within-requires-2
 within-requires-2 c κs = search needs

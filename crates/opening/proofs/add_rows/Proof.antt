@@ -13,7 +13,7 @@ use Rattle.chacha20.specs.Expand.{expand}
 use Rattle.xor.proofs.Laws.{good-by-entries}
 use Rattle.grid.specs.Grid.{Board, board, board-refusal, grid-rows, row-long}
 use Rattle.grid.specs.Code.{board-of}
-use Rattle.grid.proofs.Facts.{Board-in}
+use Rattle.grid.proofs.Facts.{Board-in, grid-rows-pos}
 use Rattle.keys.specs.Keys.{head-in}
 use Rattle.keys.proofs.Accepted.{Body-in}
 use Rattle.opening.proofs.Bodies.{key-board, key-board-accepted, key-body, table-is}
@@ -56,9 +56,21 @@ body-known c =
     let ks = now (s .args .key) in
     key-body ks (its-board s) (s .pre .0 .accepted) (s .pre .0 .board-is) (good-by-entries ks (λ i within. c .before .before .before .before .shared-slice-known .given i .fits))
 
+-- behind the loop every grid row is done, so the whole table is added
+returns : tie.Need-returns Inv-loop μ-loop
+returns c =
+    let m = c .before .before in
+    let s = entry m in
+    let l = c .before .loop in
+    all-added (its-board s) _ (body s) (now (s .args .out)) (l .out) (l .grid-row) (board-known s) (out-long s) (l .inv .2)
+    (omega (arith, c .loop-test .left, l .inv .0, m .before .grid-rows .ensures))
+    ∙ ap (λ (t : List ℕ). xors (now (s .args .out)) t) (table-is (now (s .args .key)) (its-board s) (s .pre .0 .accepted) (s .pre .0 .board-is) _)
+
 -- in a turn: the grid row exists, where it begins in the body and in the table, and how many bytes the table has of it
 inside : (c : tie.In-loop Inv-loop μ-loop) → c .before .loop .grid-row < grid-rows (its-board (entry (c .before .before)))
-inside c = omega (arith, c .loop-test .taken, c .before .before .before .grid-rows .ensures)
+inside c =
+    let m = c .before .before in
+    omega (arith, c .loop-test .taken, m .before .grid-rows .ensures, grid-rows-pos (its-board (entry m)) (board-known (entry m)))
 
 at-is : (c : tie.In-loop Inv-loop μ-loop) → let m = c .before .before in
     c .before .loop .grid-row * m .row-length .result ≡ c .before .loop .grid-row * row-long (its-board (entry m))
@@ -73,6 +85,28 @@ at-within c =
 end-within : (c : tie.After-least Inv-loop μ-loop) →
     c .before .before .loop .grid-row * c .before .before .before .row-length .result + c .least .result ≤ length (c .before .before .loop .out)
 end-within c = omega (arith, c .least .ensures, at-within (c .before))
+
+-- a turn adds one grid row
+loop-again : tie.Need-loop-again Inv-loop μ-loop
+loop-again c =
+    let done = c .before .before in
+    let p = done .before .before in
+    let n = p .before in
+    let l = n .before .before .loop in
+    let m = n .before .before .before in
+    let s = entry m in
+    let b = its-board s in
+    let at = l .grid-row * m .row-length .result in
+    let size = n .least .result in
+    let new = done .add-part .last .1 .1 .1 .0 in
+    let room = part-whole at size (l .out) (end-within n) in
+    let count = part-long at size in (
+      omega (arith, inside (n .before), m .before .grid-rows .ensures),
+      same-len-mid at (at + size - at) (l .out) new (done .add-part .kept .1 .1 .1 .0) ∙ l .inv .1,
+      row-added b (expand (row-long b)) (body s) (board-known s) (expansion b) (body-known m) (l .grid-row) (inside (n .before)) (now (s .args .out)) (l .out) _ new at (at + size - at) _
+          (at-is (n .before)) (count ∙ count-is b (board-known s) (l .grid-row) (inside (n .before)) _ _ size (m .row-length .ensures) (l .inv .1 ∙ out-long s) (n .least .ensures)) (l .inv .2)
+          (p .row-part .ensures) (room ∙ sym count) (done .add-part .ensures) (omega (arith, end-within n, l .inv .1)),
+    )
 
 grid-rows-requires : tie.Need-grid-rows-requires Inv-loop μ-loop
 grid-rows-requires c κs = accepted (c .before .before .before)
@@ -129,40 +163,12 @@ add-grid-row : tie.Need-add-grid-row Inv-loop μ-loop
 add-grid-row c = omega arith
 
 loop-less : tie.Need-loop-less Inv-loop μ-loop
-loop-less c = omega arith
-
-loop-again : tie.Need-loop-again Inv-loop μ-loop
-loop-again c =
-    let done = c .before .before in
-    let p = done .before .before in
-    let n = p .before in
-    let l = n .before .before .loop in
-    let m = n .before .before .before in
-    let s = entry m in
-    let b = its-board s in
-    let at = l .grid-row * m .row-length .result in
-    let size = n .least .result in
-    let new = done .add-part .last .1 .1 .1 .0 in
-    let room = part-whole at size (l .out) (end-within n) in
-    let count = part-long at size in (
-      omega arith,
-      same-len-mid at (at + size - at) (l .out) new (done .add-part .kept .1 .1 .1 .0) ∙ l .inv .1,
-      row-added b (expand (row-long b)) (body s) (board-known s) (expansion b) (body-known m) (l .grid-row) (inside (n .before)) (now (s .args .out)) (l .out) _ new at (at + size - at) _
-          (at-is (n .before)) (count ∙ count-is b (board-known s) (l .grid-row) (inside (n .before)) _ _ size (m .row-length .ensures) (l .inv .1 ∙ out-long s) (n .least .ensures)) (l .inv .2)
-          (p .row-part .ensures) (room ∙ sym count) (done .add-part .ensures) (omega (arith, end-within n, l .inv .1)),
-    )
+loop-less c =
+    let n = c .before .before .before .before .before in
+    omega (arith, inside (n .before), n .before .before .before .before .grid-rows .ensures)
 
 same-length : tie.Need-same-length Inv-loop μ-loop
 same-length c = omega arith
-
-returns : tie.Need-returns Inv-loop μ-loop
-returns c =
-    let m = c .before .before in
-    let s = entry m in
-    let l = c .before .loop in
-    all-added (its-board s) _ (body s) (now (s .args .out)) (l .out) (l .grid-row) (board-known s) (omega (arith, c .loop-test .left, m .before .grid-rows .ensures))
-    (omega (arith, l .inv .0, m .before .grid-rows .ensures)) (out-long s) (l .inv .2)
-    ∙ ap (λ (t : List ℕ). xors (now (s .args .out)) t) (table-is (now (s .args .key)) (its-board s) (s .pre .0 .accepted) (s .pre .0 .board-is) _)
 
 pub add-rows-spec : {M : Type 1} → statement M
 add-rows-spec =

@@ -1,5 +1,5 @@
 -- `opening::open_square` meets its contract. Assumes nothing.
-use mathlib.Core.Path.{_≡_, sym, _∙_}
+use mathlib.Core.Path.{_≡_, refl, sym, _∙_}
 use Prim.Native.Nat.{_+_, _*_, _/_, _%_, _≤_, _<_}
 use native.Mathlib.Omega.{arith}
 use denote.Ref.{now}
@@ -11,13 +11,26 @@ use Rattle.grid.proofs.Facts.{Board-in, grid-row-in}
 use Rattle.grid.proofs.Sizes.{row-most}
 use Rattle.keys.specs.Keys.{head-in}
 use Rattle.keys.proofs.Accepted.{Body-in}
-use Rattle.opening.proofs.Bodies.{cell-within, prefix-long, scratch-zeros, put-in-front, key-board, key-board-accepted, key-body, square-is}
+use Rattle.opening.proofs.Bodies.{cell-within, prefix-long, scratch-zeros, put-in-front, key-board, key-board-accepted, key-body, square-written}
 use Rattle.opening.proofs.GridRows.{part-length, part-marks}
 use Rattle.opening.proofs.open_square.Statement.{statement}
 use Rattle.opening.proofs.open_square.Tie as tie
 
 abbrev its-board : tie.Start → Board
 its-board c = board-of (c .args .header .board)
+
+-- what is written is the share of the square asked for
+returns : tie.Need-returns
+unfolding board
+returns c =
+    let done = c .before .before .before in
+    let p = done .before .before .before in
+    let s = p .before .before .before .before .before .before .before .before in
+    let written = done .open-part .last .1 .1 .1 .1 .1 .0 in
+    put-in-front written _ (now (s .args .out)) _
+    (square-written (now (s .args .key)) (its-board s) (s .pre .0 .accepted) (s .pre .0 .board-is) _ written _ (s .args .position) _ _ _
+    (done .open-part .ensures) (p .row-part .ensures) refl refl (sym (prefix-long _ (now (s .args .out)) (s .pre .2))))
+    (s .pre .2) (done .open-part .kept .1 .1 .1 .1 .1 .0)
 
 -- the key's board is accepted
 board-known : (c : tie.Start) → Board-in (its-board c)
@@ -76,16 +89,18 @@ row-part-requires : tie.Need-row-part-requires
 row-part-requires c κs = let s = c .before .before .before .before .before .before .before in (s .pre .0, inside s)
 
 array-borrow-prefix-scratch : tie.Need-array-borrow-prefix-scratch
-array-borrow-prefix-scratch c = cell-small (c .before .before .before .before .before .before .before .before)
+array-borrow-prefix-scratch c = omega (arith, cell-small (c .before .before .before .before .before .before .before .before))
 
 slice-aggregate-open-part : tie.Need-slice-aggregate-open-part
-slice-aggregate-open-part c = prefix-long _ _ (cell-small (c .before .before .before .before .before .before .before .before .before))
+slice-aggregate-open-part c = prefix-long _ _ (omega (arith, cell-small (c .before .before .before .before .before .before .before .before .before)))
 
 slice-relend-prefix-open-part : tie.Need-slice-relend-prefix-open-part
-slice-relend-prefix-open-part c = c .before .before .before .before .before .before .before .before .before .pre .2
+slice-relend-prefix-open-part c = omega (arith, c .before .before .before .before .before .before .before .before .before .pre .2)
 
 slice-aggregate-open-part-2 : tie.Need-slice-aggregate-open-part-2
-slice-aggregate-open-part-2 c = let s = c .before .before .before .before .before .before .before .before .before .before in prefix-long _ (now (s .args .out)) (s .pre .2)
+slice-aggregate-open-part-2 c =
+    let s = c .before .before .before .before .before .before .before .before .before .before in
+    prefix-long _ (now (s .args .out)) (omega (arith, s .pre .2))
 
 open-part-requires : tie.Need-open-part-requires
 open-part-requires c κs =
@@ -96,24 +111,12 @@ open-part-requires c κs =
       inside s,
       part-length (its-board s) _ (body-known known) _ (inside s) _ (p .row-part .ensures),
       part-marks (its-board s) _ (body-known known) _ (inside s) _ (p .row-part .ensures),
-      scratch-zeros _ _ (now (s .args .out)) (cell-small s) (s .pre .2),
+      scratch-zeros _ _ (now (s .args .out)) (omega (arith, cell-small s)) (omega (arith, s .pre .2)),
       omega (arith, prefix-long _ (now (s .args .out)) (s .pre .2), cell-room s),
     )
 
 same-length : tie.Need-same-length
 same-length c = search needs
-
-returns : tie.Need-returns
-unfolding board
-returns c =
-    let done = c .before .before .before in
-    let p = done .before .before .before in
-    let s = p .before .before .before .before .before .before .before .before in
-    put-in-front (done .open-part .last .1 .1 .1 .1 .1 .0) _ (now (s .args .out)) _
-    (done .open-part .ensures
-    ∙ square-is (now (s .args .key)) (its-board s) (s .pre .0 .accepted) (s .pre .0 .board-is) _ _ (s .args .position) _ (p .row-part .ensures)
-    (sym (prefix-long _ (now (s .args .out)) (s .pre .2))))
-    (s .pre .2) (done .open-part .kept .1 .1 .1 .1 .1 .0)
 
 pub open-square-spec : {M : Type 1} → statement M
 open-square-spec =

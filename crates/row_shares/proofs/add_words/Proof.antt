@@ -49,6 +49,20 @@ loop-holds c =
     let out = now (a .out) in
     (omega arith, refl, good-by-entries out (λ i within. c .slice-known .given i .fits), all-left _ out _ _ _ _ _)
 
+loop-again : tie.Need-loop-again Inv-loop μ-loop
+loop-again c =
+    let added = c .before .before .add-if in
+    let here = c .before .before .before .before .before in
+    let l = here .before .before .loop in
+    let a = c .before .before .before .before .before .before .before .before .before .before .before .args in
+    let at = l .column * a .row-bytes + a .from in (
+      omega arith,
+      added .kept .1 .1 .0 ∙ l .inv .1,
+      good-by-entries _ (λ i within. c .slice-known2 .given i .fits),
+      words-turn (now (a .part)) (now (a .words)) (a .row-bytes) (a .from) (length (now (a .out))) (a .columns) (l .column) _ (l .out) _ _ _ (here .before .loop-test .taken) (l .inv .3)
+          (word-is at (length (l .out)) (length (now (a .out))) (now (a .words)) (l .inv .1)) (here .mark .ensures) (added .ensures),
+    )
+
 mul-word : tie.Need-mul-word Inv-loop μ-loop
 mul-word c = omega (arith, room c)
 
@@ -78,20 +92,6 @@ add-column c = omega arith
 
 loop-less : tie.Need-loop-less Inv-loop μ-loop
 loop-less c = omega arith
-
-loop-again : tie.Need-loop-again Inv-loop μ-loop
-loop-again c =
-    let added = c .before .before .add-if in
-    let here = c .before .before .before .before .before in
-    let l = here .before .before .loop in
-    let a = c .before .before .before .before .before .before .before .before .before .before .before .args in
-    let at = l .column * a .row-bytes + a .from in (
-      omega arith,
-      added .kept .1 .1 .0 ∙ l .inv .1,
-      good-by-entries _ (λ i within. c .slice-known2 .given i .fits),
-      words-turn (now (a .part)) (now (a .words)) (a .row-bytes) (a .from) (length (now (a .out))) (a .columns) (l .column) _ (l .out) _ _ _ (here .before .loop-test .taken) (l .inv .3)
-          (word-is at (length (l .out)) (length (now (a .out))) (now (a .words)) (l .inv .1)) (here .mark .ensures) (added .ensures),
-    )
 
 same-length : tie.Need-same-length Inv-loop μ-loop
 same-length c = c .before .loop .inv .1

@@ -24,6 +24,14 @@ loop-holds c =
     let out = now (a .out) in
     (omega arith, refl, rows-start (length out) (now (a .seeds)) out refl (good-by-entries out (λ i within. c .slice-known .given i .fits)))
 
+loop-again : tie.Need-loop-again Inv-loop μ-loop
+loop-again c =
+    let l = c .before .before .before .before .before .before .loop in
+    let a = c .before .before .before .before .before .before .before .before .before .args in
+    let n = length (now (a .out)) in
+    let put = c .before .before .xor-row in
+    (omega arith, put .kept .1 .0 ∙ l .inv .1, rows-turn (l .seed) n (now (a .seeds)) (now (a .out)) (l .inv .2) (row-is (length (l .out)) n (32 * l .seed) (now (a .seeds)) (l .inv .1)) (put .ensures))
+
 mul-from : tie.Need-mul-from Inv-loop μ-loop
 mul-from c = omega arith
 
@@ -47,14 +55,6 @@ add-seed c = omega arith
 
 loop-less : tie.Need-loop-less Inv-loop μ-loop
 loop-less c = omega arith
-
-loop-again : tie.Need-loop-again Inv-loop μ-loop
-loop-again c =
-    let l = c .before .before .before .before .before .before .loop in
-    let a = c .before .before .before .before .before .before .before .before .before .args in
-    let n = length (now (a .out)) in
-    let put = c .before .before .xor-row in
-    (omega arith, put .kept .1 .0 ∙ l .inv .1, rows-turn (l .seed) n (now (a .seeds)) (now (a .out)) (l .inv .2) (row-is (length (l .out)) n (32 * l .seed) (now (a .seeds)) (l .inv .1)) (put .ensures))
 
 same-length : tie.Need-same-length Inv-loop μ-loop
 same-length c = c .before .loop .inv .1

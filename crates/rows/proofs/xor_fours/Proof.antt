@@ -31,6 +31,15 @@ loop-holds c =
     let out = now (a .out) in
     (omega arith, refl, search needs, rows-start (length out) (now (a .seeds)) out refl (good-by-entries out (λ i within. c .before .slice-known .given i .fits)))
 
+loop-again : tie.Need-loop-again Inv-loop μ-loop
+loop-again c =
+    let l = c .before .before .before .before .before .before .before .before .loop in
+    let a = c .before .before .before .before .before .before .before .before .before .before .before .before .args in
+    let n = length (now (a .out)) in
+    let put = c .before .before .before .xor-four in
+    let more = four-more (now (a .seeds)) (l .taken) n (now (a .out)) (length (l .out)) _ (l .inv .1) (l .inv .3) (put .ensures) in
+    (omega arith, put .kept .1 .1 .0 ∙ l .inv .1, put .kept .1 .0 ∙ l .inv .2, more (omega arith))
+
 sub-loop : tie.Need-sub-loop Inv-loop μ-loop
 sub-loop c = omega arith
 
@@ -63,14 +72,6 @@ add-taken c = omega arith
 
 loop-less : tie.Need-loop-less Inv-loop μ-loop
 loop-less c = omega arith
-
-loop-again : tie.Need-loop-again Inv-loop μ-loop
-loop-again c =
-    let l = c .before .before .before .before .before .before .before .before .loop in
-    let a = c .before .before .before .before .before .before .before .before .before .before .before .before .args in
-    let n = length (now (a .out)) in
-    let put = c .before .before .before .xor-four in
-    (omega arith, put .kept .1 .1 .0 ∙ l .inv .1, put .kept .1 .0 ∙ l .inv .2, four-more (now (a .seeds)) (l .taken) n (now (a .out)) (length (l .out)) (l .inv .1) (l .inv .3) (put .ensures))
 
 same-length : tie.Need-same-length Inv-loop μ-loop
 same-length c = c .before .loop .inv .1

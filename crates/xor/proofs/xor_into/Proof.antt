@@ -30,13 +30,20 @@ whole out out₀ row i same past within so-far =
     so-far ∙ rw (take-all i (xors out₀ row) (omega (arith, length-xors out₀ row same)), drop-of-length-le out₀ past) (append-nil (xors out₀ row))
 
 abbrev Inv-loop : tie.InvT-loop
-Inv-loop out₀ row i₀ out i = (i ≤ length out₀) × (length out ≡ length out₀) × (out ≡ take i (xors out₀ row) ++ drop i out₀)
+Inv-loop out₀ row i₀ out i = (out ≡ take i (xors out₀ row) ++ drop i out₀) × (i ≤ length out₀) × (length out ≡ length out₀)
 
 abbrev μ-loop : tie.MeasureT-loop
 μ-loop out₀ row i₀ out i = length out₀ - i
 
 loop-holds : tie.Need-loop-holds Inv-loop μ-loop
-loop-holds c = (omega arith, refl, refl)
+loop-holds c = (refl, omega arith, refl)
+
+loop-again : tie.Need-loop-again Inv-loop μ-loop
+loop-again c =
+    let l = c .before .before .before .loop in
+    let byte = c .before .slice-known .given (l .i) .fits in
+    let row-byte = c .shared-slice-known .given (l .i) .fits in
+    (turn (l .out) _ _ (l .i) (c .before .before .before .before .pre) (omega arith) (l .inv .0) byte row-byte, omega arith, simp length-set (l .inv .2))
 
 slice-read-out : tie.Need-slice-read-out Inv-loop μ-loop
 slice-read-out c = omega arith
@@ -53,19 +60,14 @@ add-i c = omega arith
 loop-less : tie.Need-loop-less Inv-loop μ-loop
 loop-less c = omega arith
 
-loop-again : tie.Need-loop-again Inv-loop μ-loop
-loop-again c =
-    let l = c .before .before .before .loop in
-    (omega arith, simp length-set (l .inv .1), turn (l .out) _ _ (l .i) (c .before .before .before .before .pre) (omega arith) (l .inv .2) (c .before .slice-known .given (l .i) .fits) (c .shared-slice-known .given (l .i) .fits))
-
 same-length : tie.Need-same-length Inv-loop μ-loop
-same-length c = c .before .loop .inv .1
+same-length c = c .before .loop .inv .2
 
 returns : tie.Need-returns Inv-loop μ-loop
 returns c =
     let l = c .before .loop in
     let a = c .before .before .args in
-    whole (l .out) (now (a .out)) (now (a .row)) (l .i) (c .before .before .pre) (omega arith) (l .inv .0) (l .inv .2)
+    whole (l .out) (now (a .out)) (now (a .row)) (l .i) (c .before .before .pre) (omega arith) (l .inv .1) (l .inv .0)
 
 pub xor-into-spec : {M : Type 1} → statement M
 xor-into-spec =

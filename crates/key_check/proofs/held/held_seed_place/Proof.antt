@@ -22,6 +22,15 @@ good c = good-by-entries (now (c .before .args .key)) (λ i _. c .shared-slice-k
 below : {x r y : ℕ} → r ≡ y → x < r → x ≤ y
 below e h = omega arith
 
+-- a place is told for a marked column
+returns-5 : tie.Need-returns-5
+returns-5 c =
+    let f = c .before .before .before .before .before in
+    let e = f .before .before in
+    seed-place _ _ _ _ (accepted (e .before .before .before)) _ (e .before .grid-rows .ensures) (e .if1 .left) _ (f .before .columns .ensures) (f .if2 .left)
+    (good (e .before .before .before .before .before .before .before)) _ (c .before .before .before .before .grid-row-from .ensures) _
+    (c .before .before .before .part-from .ensures) _ (c .before .before .mark .ensures) _ (c .before .if3 .left) (c .seed-from .ensures)
+
 check-key-requires : tie.Need-check-key-requires
 check-key-requires c κs = search needs
 
@@ -78,14 +87,6 @@ add-result c =
     let e = f .before .before in
     let short = place-short _ _ _ _ (board-fine _ _ (accepted (e .before .before .before))) (c .before .before .before .before .grid-row-from .ensures)
     (below (e .before .grid-rows .ensures) (e .if1 .left)) (c .seed-from .ensures) (below (f .before .columns .ensures) (f .if2 .left)) in omega arith
-
-returns-5 : tie.Need-returns-5
-returns-5 c =
-    let f = c .before .before .before .before .before in
-    let e = f .before .before in
-    seed-place _ _ _ _ (accepted (e .before .before .before)) _ (e .before .grid-rows .ensures) (e .if1 .left) _ (f .before .columns .ensures) (f .if2 .left)
-    (good (e .before .before .before .before .before .before .before)) _ (c .before .before .before .before .grid-row-from .ensures) _
-    (c .before .before .before .part-from .ensures) _ (c .before .before .mark .ensures) _ (c .before .if3 .left) (c .seed-from .ensures)
 
 pub held-seed-place-spec : {M : Type 1} → statement M
 held-seed-place-spec =

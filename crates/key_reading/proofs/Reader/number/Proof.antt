@@ -4,6 +4,14 @@ use borrow.Author.Needs.{needs}
 use Rattle.key_reading.proofs.Reader.number.Statement.{statement}
 use Rattle.key_reading.proofs.Reader.number.Tie as tie
 
+-- a third group is the last, and not zero
+returns-6 : tie.Need-returns-6
+returns-6 c =
+    let m = c .before .before .before in
+    let k = m .before .before .before in
+    three-groups _ _ _ (k .before .before .if1 .left) (k .before .byte .ensures) _ (k .if2 .left) (m .before .before .byte2 .ensures)
+    _ (m .if4 .left) (c .before .before .byte3 .ensures) (c .before .if5 .left) (c .if6 .taken)
+
 returns : tie.Need-returns
 returns c = broken-past _ _ (c .if1 .taken)
 
@@ -79,13 +87,6 @@ add-t22 c = search needs
 
 add-t23 : tie.Need-add-t23
 add-t23 c = search needs
-
-returns-6 : tie.Need-returns-6
-returns-6 c =
-    let m = c .before .before .before in
-    let k = m .before .before .before in
-    three-groups _ _ _ (k .before .before .if1 .left) (k .before .byte .ensures) _ (k .if2 .left) (m .before .before .byte2 .ensures)
-    _ (m .if4 .left) (c .before .before .byte3 .ensures) (c .before .if5 .left) (c .if6 .taken)
 
 returns-7 : tie.Need-returns-7
 returns-7 c =

@@ -1,5 +1,5 @@
 -- `open_calls::table::open_all` meets its contract. Assumes nothing.
-use mathlib.Core.Path.{sym, ap, _∙_}
+use mathlib.Core.Path.{refl, sym, ap, _∙_}
 use denote.Ref.{now}
 use Rattle.key_check.specs.Checked.{checked-as}
 use Prim.Native.Nat.{_*_, _≤_}
@@ -8,7 +8,7 @@ use Rattle.grid.specs.Grid.{board}
 use Rattle.grid.specs.Code.{board-of}
 use Rattle.key_check.proofs.Says.{Accepted-as, accepted-says, board-fine}
 use Rattle.entry.proofs.Sizes.{table-most}
-use Rattle.open_calls.proofs.Squares.{with-header, all-key-refused, all-room-refused, all-opened}
+use Rattle.open_calls.proofs.Squares.{with-header, all-key-refused, all-refused, all-opened}
 use borrow.Author.Needs.{needs}
 use Rattle.open_calls.proofs.table.open_all.Statement.{statement}
 use Rattle.open_calls.proofs.table.open_all.Tie as tie
@@ -22,14 +22,24 @@ small : (c : tie.After-known-told2) → let h = c .before .header .given .0 .0 i
 unfolding board
 small c = table-most (board-of (c .before .header .given .0 .0 .board)) (board-fine _ _ (accepted c))
 
+returns : tie.Need-returns
+returns c = all-key-refused _ 0 _ _ (sym (ap checked-as (c .before .number .given .1)) ∙ c .before .before .before .check-key .ensures)
+
+returns-2 : tie.Need-returns-2
+returns-2 c = all-refused _ 0 _ _ (accepted (c .before .before .before)) _ (omega (arith, c .if1)) (omega arith)
+
+returns-3 : tie.Need-returns-3
+returns-3 c =
+    let done = c .before .before in
+    let room = done .before .before in
+    let known = room .before .before .before in
+    all-opened _ 0 _ _ (accepted known) _ _ (done .open-table .ensures) refl (omega (arith, room .if1, small known))
+
 check-key-requires : tie.Need-check-key-requires
 check-key-requires c κs = search needs
 
 enum-known-number : tie.Need-enum-known-number
 enum-known-number c = search needs
-
-returns : tie.Need-returns
-returns c = all-key-refused _ 0 _ _ (sym (ap checked-as (c .before .number .given .1)) ∙ c .before .before .before .check-key .ensures)
 
 enum-known-header : tie.Need-enum-known-header
 enum-known-header c = search needs
@@ -40,22 +50,13 @@ mul-table c = omega (arith, small (c .before .before))
 cast-table : tie.Need-cast-table
 cast-table c = omega (arith, small (c .before .before))
 
-returns-2 : tie.Need-returns-2
-returns-2 c = all-room-refused _ 0 _ _ (accepted (c .before .before .before)) (c .if1 .taken)
-
 open-table-requires : tie.Need-open-table-requires
 open-table-requires c κs =
     let room = c .before in
-    let key = accepted (room .before .before .before) in (with-header _ _ key, room .if1 .left)
+    let known = room .before .before .before in (with-header _ _ (accepted known), omega (arith, room .if1, small known))
 
 same-length : tie.Need-same-length
 same-length c = search needs
-
-returns-3 : tie.Need-returns-3
-returns-3 c =
-    let done = c .before .before in
-    let room = done .before .before in
-    all-opened _ 0 _ _ (accepted (room .before .before .before)) _ (room .if1 .left) (done .open-table .ensures)
 
 pub open-all-spec : {M : Type 1} → statement M
 open-all-spec =
