@@ -112,7 +112,7 @@ module _ (b : Board) (a whole rest : ℕ) where
   module _ (accepted : board-refusal b ≡ 0) where
     pub asked-point : b .n ≤ a → 6 ≡ asked-refusal b a whole rest
     unfolding asked-refusal
-    asked-point h = rw (accepted, le-leb (b .n) a h)
+    asked-point h = rw (accepted, le-leb (b .n) a h) refl
 
     module _ (point : a < b .n) where
       pub asked-most : 65536 < whole → 7 ≡ asked-refusal b a whole rest

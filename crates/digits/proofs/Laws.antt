@@ -78,6 +78,15 @@ decimal-five v h = digits-below 4 10 v (omega (arith, five-digits))
 
 -- HEXADECIMAL
 
+-- the byte of a digit, a figure below ten and a letter from ten on
+pub hex-figure : (v byte : ℕ) → v < 10 → byte ≡ 48 + v → byte ≡ hex-digit v
+unfolding hex-digit
+hex-figure v byte h e = rw (lt-ltb v 10 h) e
+
+pub hex-letter : (v byte : ℕ) → 10 ≤ v → byte ≡ 55 + v → byte ≡ hex-digit v
+unfolding hex-digit
+hex-letter v byte h e = rw (le-ltb v 10 h) e
+
 -- the two digits of a byte
 unfoldable pub pair : ℕ → List ℕ
 pair x = hex-digit (x / 16) ∷ hex-digit (x % 16) ∷ []

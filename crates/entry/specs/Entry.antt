@@ -1,5 +1,6 @@
 -- What the operations answer and leave behind: document 03's Entry, word for word but for a name, `width-refusal`. Each is an equation that
--- fixes the number, the value and every lent byte, refused calls too. Join keys has its own file; Check key and Held seed answer as the crate keys says. Assumes nothing: these are definitions.
+-- fixes the number, the value and every lent byte, refused calls too. Join keys has its own file; Check key and
+-- Held seed answer as the crate keys says. Assumes nothing: these are definitions.
 use mathlib.Core.Path.{_≡_}
 use mathlib.Core.Bool.{_&&_, not, cond}
 use mathlib.Core.List.{List, _++_}

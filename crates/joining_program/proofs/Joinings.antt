@@ -56,7 +56,7 @@ module _ (bs : List ℕ) where
 
 pub joining-long : (bs : List ℕ) → 65536 < length bs → joining-refusal bs ≡ or-else (head-refusal (head-in bs)) 12
 unfolding joining-refusal
-joining-long bs h = rw (lt-ltb 65536 (length bs) h)
+joining-long bs h = rw (lt-ltb 65536 (length bs) h) refl
 
 pub joining-short : (bs : List ℕ) → length bs ≤ 65536 → joining-refusal bs ≡ keys-refusal bs 65536
 unfolding joining-refusal keys-refusal

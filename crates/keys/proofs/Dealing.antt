@@ -17,7 +17,8 @@ use Rattle.grid.specs.Arrays.{marked, Half-is-marked}
 use Rattle.grid.proofs.Facts.{board-accepted, Board-in, board-in, Facts, arrays-in, arrays-split, array-of, array-long, rows-in, words-in, grid-row-in, words-long}
 use Rattle.grid.proofs.Arrays.{half-is-marked}
 use Rattle.grid.proofs.LastWord.{all-words-long, all-words-are}
-use Rattle.keys.specs.Keys.{Lent, dealing, deal-refusal, mark-bytes, held-seeds, body-from, glued, rows-from, words-from, key, packed-marks, rows-written, key-written, parts-share, share-by-parts}
+use Rattle.keys.specs.Keys.{Lent, dealing, deal-refusal, mark-bytes, held-seeds, body-from, glued, rows-from, words-from, key}
+use Rattle.keys.specs.Keys.{packed-marks, rows-written, key-written, parts-share, share-by-parts}
 use Rattle.keys.specs.Promise.{Rule-good, lent-good, dealt-parts}
 use Rattle.keys.proofs.Lists.{length-words, take-words, drop-words, each-cons, each-words, each-head, each-tail}
 use Rattle.keys.proofs.Marks.{marks-set, packed-is, take-marks, drop-marks, length-marks-of}

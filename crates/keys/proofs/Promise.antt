@@ -15,8 +15,12 @@ use Rattle.grid.specs.Joining.{over, Shares-join}
 use Rattle.grid.proofs.Facts.{dealing-accepted}
 use Rattle.grid.proofs.Hiding.{just-one-dealing}
 use Rattle.grid.proofs.Joining.{shares-join}
-use Rattle.keys.specs.Keys.{Lent, dealing, key, keys-from, key-long, key-refusal, head-in, opened, parts-of, parts-in, key-written, share-by-parts, table, rows-from, words-from}
-use Rattle.keys.specs.Promise.{Rule-good, lent-good, dealt-parts, entry, point-table, Accepted-is-drawn, rows-of, held-in, Held-is-read, Agree, Same-keys, Same-keys-for-others, Fits-keys, Keys-tell-nothing, Header-reads, Reads-parts, Only-writing, Same-parts, Dealt-accepted, Keys-long, Keys-apart, Table-long, Opens-alone, Keys-open, Tables-join, Full-tables-join}
+use Rattle.keys.specs.Keys.{Lent, dealing, key, keys-from, key-long, key-refusal, head-in, opened, rows-from, words-from}
+use Rattle.keys.specs.Keys.{parts-of, parts-in, key-written, share-by-parts, table}
+use Rattle.keys.specs.Promise.{Rule-good, lent-good, dealt-parts, entry, point-table, rows-of, held-in, Agree, Fits-keys}
+use Rattle.keys.specs.Promise.{Header-reads, Reads-parts, Only-writing, Same-parts, Dealt-accepted, Keys-long, Keys-apart}
+use Rattle.keys.specs.Promise.{Table-long, Opens-alone, Keys-open, Tables-join, Full-tables-join}
+use Rattle.keys.specs.Promise.{Accepted-is-drawn, Held-is-read, Same-keys, Same-keys-for-others, Keys-tell-nothing}
 use Rattle.keys.proofs.Lists.{in-a-row, row-same, row-word, row-at, row-split, row-xors, row-zeros}
 use Rattle.keys.proofs.Numbers.{header-again}
 use Rattle.keys.proofs.Accepted.{Key-in, key-in, key-accepted, body-in, body-parts, Parts-good, key-again, written-head, written-key, written-long, written-good, written-reads}
@@ -246,8 +250,10 @@ same-keys b f l m i first second rule h =
 
 pub same-keys-for-others : Same-keys-for-others
 unfolding Same-keys-for-others Same-keys Same-for-others
-same-keys-for-others b f l m i first second rule =
-    (λ agree k h other. same-keys b f l m k first second rule h .0 (agree k h other), λ same k h other. same-keys b f l m k first second rule h .1 (same k h other))
+same-keys-for-others b f l m i first second rule = (
+  λ agree k h other. same-keys b f l m k first second rule h .0 (agree k h other),
+  λ same k h other. same-keys b f l m k first second rule h .1 (same k h other),
+)
 
 -- a dealing that looks the same to everybody but one fits their keys, and the other way round
 module _ (b : Board) (f : List ℕ → List ℕ) (l : Lent) (i point : ℕ) (value : List ℕ) (c : ℕ → List ℕ) (lent : lent-good b l ≡ true) (rule : Rule-good b f)

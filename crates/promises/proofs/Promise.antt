@@ -7,7 +7,9 @@ use Rattle.grid.proofs.LastWord.{last-word-completes}
 use Rattle.grid.proofs.Joining.{shares-join, words-join}
 use Rattle.grid.proofs.Hiding.{tells-nothing, just-one-dealing, no-other-dealing, moved-is-named, moving-finds}
 use Rattle.grid.proofs.Widths.{width-is-least, width-serves}
-use Rattle.keys.proofs.Promise.{header-reads, reads-parts, only-writing, same-parts, dealt-accepted, keys-long, keys-apart, table-long, opens-alone, keys-open, tables-join, full-tables-join, accepted-is-drawn, held-is-read, same-keys, same-keys-for-others, keys-tell-nothing}
+use Rattle.keys.proofs.Promise.{header-reads, reads-parts, only-writing, same-parts, dealt-accepted, keys-long, keys-apart}
+use Rattle.keys.proofs.Promise.{table-long, opens-alone, keys-open, tables-join, full-tables-join}
+use Rattle.keys.proofs.Promise.{accepted-is-drawn, held-is-read, same-keys, same-keys-for-others, keys-tell-nothing}
 use Rattle.keys.proofs.Holding.{place-holds}
 use Rattle.keys.proofs.DealtSeeds.{held-as-dealt}
 use Rattle.keys.proofs.Document03

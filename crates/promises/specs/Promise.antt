@@ -8,7 +8,9 @@ unfoldable pub use Rattle.grid.specs.Joining.{Shares-join, Words-join, Last-wor
 unfoldable pub use Rattle.grid.specs.Hiding.{Tells-nothing, Just-one-dealing, No-other-dealing}
 unfoldable pub use Rattle.grid.specs.Moving.{Moved-is-named, Moving-finds}
 unfoldable pub use Rattle.grid.specs.Width.{Width-is-least, Width-serves}
-unfoldable pub use Rattle.keys.specs.Promise.{Rule-good, Header-reads, Reads-parts, Only-writing, Same-parts, Dealt-accepted, Keys-long, Keys-apart, Table-long, Opens-alone, Keys-open, Tables-join, Full-tables-join, Accepted-is-drawn, Held-is-read, Same-keys, Same-keys-for-others, Keys-tell-nothing}
+unfoldable pub use Rattle.keys.specs.Promise.{Header-reads, Reads-parts, Only-writing, Same-parts, Dealt-accepted, Keys-long, Keys-apart}
+unfoldable pub use Rattle.keys.specs.Promise.{Rule-good, Table-long, Opens-alone, Keys-open, Tables-join, Full-tables-join}
+unfoldable pub use Rattle.keys.specs.Promise.{Accepted-is-drawn, Held-is-read, Same-keys, Same-keys-for-others, Keys-tell-nothing}
 unfoldable pub use Rattle.keys.specs.Held.{Place-holds, Held-as-dealt}
 use Rattle.keys.specs.Document03
 use Rattle.entry.specs.Entry.{rule}

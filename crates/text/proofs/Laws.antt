@@ -99,10 +99,13 @@ lines-turn at k n w value ts within is room p q =
     wrote-more (position-lines k 0 w ts) (position-line k value) (position-lines (k + 1) 0 w ts) grown
     (omega (arith, lines-next-length k w ts, lines-within k n w ts within)) p q
 
--- a whole text is as long as its first line and the others
-pub table-text-length : (p n w : ℕ) (ts : List ℕ) → length (table-text p n w ts) ≡ length (board-line p n w) + length (position-lines n 0 w ts)
+-- a whole text is its first line, and the others from position 0 on
+pub table-text-is : (p n w : ℕ) (ts : List ℕ) → table-text p n w ts ≡ board-line p n w ++ position-lines n 0 w ts
 unfolding table-text
-table-text-length p n w ts = length-append (board-line p n w) (position-lines n 0 w ts)
+table-text-is p n w ts = refl
+
+pub table-text-length : (p n w : ℕ) (ts : List ℕ) → length (table-text p n w ts) ≡ length (board-line p n w) + length (position-lines n 0 w ts)
+table-text-length p n w ts = ap length (table-text-is p n w ts) ∙ length-append (board-line p n w) (position-lines n 0 w ts)
 
 -- HOW LONG THEY CAN BE
 

@@ -152,7 +152,7 @@ append-xors (x ∷ xs) (u ∷ us) ys vs h = ap (λ (l : List ℕ). xor-from 8 x 
 pub xors-self : (xs : List ℕ) → xors xs xs ≡ zeros (length xs)
 unfolding xors zeros
 xors-self [] = refl
-xors-self (x ∷ xs) = rw (xor-from-self 8 x, xors-self xs)
+xors-self (x ∷ xs) = ap (λ (n : ℕ). n ∷ xors xs xs) (xor-from-self 8 x) ∙ ap (λ (l : List ℕ). 0 ∷ l) (xors-self xs)
 
 -- BYTES: what is good stays so under ++, take and drop, and in parts
 

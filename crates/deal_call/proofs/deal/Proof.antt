@@ -27,7 +27,8 @@ mul-if2 c =
 returns-2 : tie.Need-returns-2
 returns-2 c =
     let e = c .before .before in
-    deal-room-refused _ _ _ _ _ _ _ _ _ _ (sym (e .before .deal-refusal .ensures) ∙ e .if1 .left) _ (c .before .key-length .ensures) (omega (arith, c .if2 .taken))
+    deal-room-refused _ _ _ _ _ _ _ _ _ _ (sym (e .before .deal-refusal .ensures) ∙ e .if1 .left) _
+    (c .before .key-length .ensures) (omega (arith, c .if2 .taken))
 
 deal-keys-requires : tie.Need-deal-keys-requires
 unfolding lent

@@ -41,14 +41,16 @@ unfolding board lent
 returns-4 c =
     let fits = c .before .before in
     let point = fits .before .before in
-    deal-arrays _ _ (fine (point .before .before)) (omega (arith, point .if2 .left)) _ (fits .before .lent-fits .ensures) (fits .if3 .left) _ (c .before .arrays-good .ensures) (c .if4 .taken)
+    deal-arrays _ _ (fine (point .before .before)) (omega (arith, point .if2 .left)) _ (fits .before .lent-fits .ensures) (fits .if3 .left) _
+    (c .before .arrays-good .ensures) (c .if4 .taken)
 
 returns-5 : tie.Need-returns-5
 unfolding board lent
 returns-5 c =
     let fits = c .before .before in
     let point = fits .before .before in
-    deal-none _ _ (fine (point .before .before)) (omega (arith, point .if2 .left)) _ (fits .before .lent-fits .ensures) (fits .if3 .left) _ (c .before .arrays-good .ensures) (c .if4 .left)
+    deal-none _ _ (fine (point .before .before)) (omega (arith, point .if2 .left)) _ (fits .before .lent-fits .ensures) (fits .if3 .left) _
+    (c .before .arrays-good .ensures) (c .if4 .left)
 
 pub deal-refusal-spec : {M : Type 1} → statement M
 deal-refusal-spec =

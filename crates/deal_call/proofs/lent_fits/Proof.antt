@@ -68,7 +68,8 @@ returns-4 c =
     let seeds = c .before in
     let arrays = seeds .before in
     let e = arrays .before in
-    fits-but-words _ _ _ _ _ _ (counted (e .before .before)) (e .if1 .left) (arrays .if2 .left) _ _ (omega (arith, seeds .if3 .left)) (e .before .before .before .columns .ensures) (c .row-length .ensures)
+    fits-but-words _ _ _ _ _ _ (counted (e .before .before)) (e .if1 .left) (arrays .if2 .left) _ _ (omega (arith, seeds .if3 .left))
+    (e .before .before .before .columns .ensures) (c .row-length .ensures)
 
 pub lent-fits-spec : {M : Type 1} → statement M
 lent-fits-spec =

@@ -4,7 +4,7 @@ use Prim.Native.Nat.{_-_, _≤_}
 use native.Mathlib.Omega.{arith}
 use lib.ListN.{length}
 use denote.Ref.{now}
-use Rattle.grid.specs.Grid.{board}
+use Rattle.grid.specs.Grid.{board, row-long}
 use Rattle.grid.specs.Code.{board-of}
 use Rattle.grid.proofs.Facts.{board-in}
 use Rattle.keys.specs.Keys.{Lent, keys-from}
@@ -38,12 +38,28 @@ lent-to s = let a = s .args in lent (a .point) (now (a .value)) (now (a .arrays)
 facts : (s : tie.Start Inv-loop μ-loop) → Lent-fits (board-of (s .args .board)) (lent-to s)
 facts s = lent-fits (board-of (s .args .board)) (lent-to s) (s .pre .0)
 
+-- where the call began, from the place at which the loop is entered
+abbrev entry : tie.After-slice-known3 Inv-loop μ-loop → tie.Start Inv-loop μ-loop
+entry c = c .before .before .before .before .before .before .before .before .before .before .before .before .before .before
+
 -- player 0's key is written before the loop
-begun : (c : tie.After-slice-known3 Inv-loop μ-loop) → let s = c .before .before .before .before .before .before .before .before .before .before .before .before .before .before in
-    Begun (board-of (s .args .board)) (lent-to s) (c .before .before .before .before .before .before .put-front .result) (c .before .before .put-last-word .result) (now (s .args .keys)) (c .before .before .before .before .before .before .put-front .last .0) (c .before .before .put-last-word .last .0)
+begun : (c : tie.After-slice-known3 Inv-loop μ-loop) →
+    let s = entry c in
+    let front = c .before .before .before .before .before .before .put-front in
+    let word = c .before .before .put-last-word in
+    Begun (board-of (s .args .board)) (lent-to s) (front .result) (word .result) (now (s .args .keys)) (front .last .0) (word .last .0)
 unfolding board
 begun c =
-    record { room = c .before .before .before .before .before .before .before .before .before .before .before .before .before .before .pre .1; front = c .before .before .before .before .before .before .put-front .ensures; word = c .before .before .put-last-word .ensures }
+    record {
+      room = entry c .pre .1;
+      front = c .before .before .before .before .before .before .put-front .ensures;
+      word = c .before .before .put-last-word .ensures;
+    }
+
+-- a row's length, worked out before the loop
+row-known : (c : tie.After-slice-known3 Inv-loop μ-loop) →
+    c .before .before .before .before .before .before .before .before .row-length .result ≡ row-long (board-of (entry c .args .board))
+row-known c = c .before .before .before .before .before .before .before .before .row-length .ensures
 
 row-length-requires : tie.Need-row-length-requires Inv-loop μ-loop
 row-length-requires c κs = facts (c .before .before .before .before .before) .accepted
@@ -61,50 +77,67 @@ put-last-word-requires c κs =
     let s = c .before .before .before .before .before .before .before .before .before .before .before in
     let f = facts s in
     let p = c .before .before .before .put-front in
-    (f .accepted, f .point, f .value, f .seeds, f .words, omega (arith, p .kept .0, word-room (board-of (s .args .board)) (lent-to s) f (length (now (s .args .keys))) (p .result) (s .pre .1) (p .ensures .next-is)))
+    let room = word-room (board-of (s .args .board)) (lent-to s) f (length (now (s .args .keys))) (p .result) (s .pre .1) (p .ensures .next-is) in
+    (f .accepted, f .point, f .value, f .seeds, f .words, omega (arith, p .kept .0, room))
 
 loop-holds : tie.Need-loop-holds Inv-loop μ-loop
 unfolding keys-from board
-loop-holds c = (omega arith, omega (arith, board-in (board-of (c .before .before .before .before .before .before .before .before .before .before .before .before .before .before .args .board)) (facts (c .before .before .before .before .before .before .before .before .before .before .before .before .before .before) .accepted) .players-least), refl, wrote-nothing _ _)
+loop-holds c =
+    let least = board-in (board-of (entry c .args .board)) (facts (entry c) .accepted) .players-least in
+    (omega arith, omega (arith, least), refl, wrote-nothing _ _)
 
 loop-again : tie.Need-loop-again Inv-loop μ-loop
 unfolding board
 loop-again c =
-    let s = c .before .before .before .before .before .before .before .before .before .before .before .before .before .before .before .before .before .before .before .before .before .before .before .before .before in
+    let s = entry (c .before .before .before .before .before .before .before .before .before .before .before) in
     let l = c .before .before .before .before .before .before .before .before .before .before .loop in
     let f = c .before .before .before .before .before .before .put-front2 in
     let w = c .before .before .put-again in (
       omega arith,
       omega arith,
       w .kept .0 ∙ f .kept .0 ∙ l .inv .2,
-      turn (board-of (s .args .board)) (lent-to s) (facts s) _ _ _ _ _ (begun (c .before .before .before .before .before .before .before .before .before .before .before)) (l .player) (l .next) (l .keys) (l .inv .0) (l .inv .3) (omega arith)
-          _ (c .before .before .before .before .before .before .before .before .before .before .before .before .before .before .before .before .before .before .before .row-length .ensures) (f .ensures) (w .ensures) (omega arith),
+      turn (board-of (s .args .board)) (lent-to s) (facts s) _ _ _ _ _
+          (begun (c .before .before .before .before .before .before .before .before .before .before .before))
+          (l .player) (l .next) (l .keys) (l .inv .0) (l .inv .3) (omega arith) _
+          (row-known (c .before .before .before .before .before .before .before .before .before .before .before))
+          (f .ensures) (w .ensures) (omega arith),
     )
 
 returns : tie.Need-returns Inv-loop μ-loop
 unfolding board
 returns c =
-    let s = c .before .before .before .before .before .before .before .before .before .before .before .before .before .before .before .before .before in
+    let g = c .before .before .before in
+    let s = entry g in
     let l = c .before .before .loop in
-    all-written (board-of (s .args .board)) (lent-to s) (facts s) _ _ _ _ _ (begun (c .before .before .before)) (l .player) (l .next) (l .keys) (omega arith) (l .inv .3)
+    all-written (board-of (s .args .board)) (lent-to s) (facts s) _ _ _ _ _ (begun g) (l .player) (l .next) (l .keys) (omega arith) (l .inv .3)
 
 put-front-requires-2 : tie.Need-put-front-requires-2 Inv-loop μ-loop
 unfolding board
 put-front-requires-2 c κs =
-    let s = c .before .before .before .before .before .before .before .before .before .before .before .before .before .before .before .before .before .before in
+    let g = c .before .before .before .before in
+    let s = entry g in
+    let b = board-of (s .args .board) in
     let f = facts s in
     let l = c .before .before .before .loop in
-    let most = board-in (board-of (s .args .board)) (f .accepted) .players-most in
-    (f .accepted, omega arith, f .arrays, f .seeds, next-front-room (board-of (s .args .board)) (lent-to s) f _ _ _ _ _ (begun (c .before .before .before .before)) (l .player) (l .next) (l .keys) (l .inv .0) (l .inv .3) _ (omega arith) (omega arith))
+    let most = board-in b (f .accepted) .players-most in (
+      f .accepted,
+      omega arith,
+      f .arrays,
+      f .seeds,
+      next-front-room b (lent-to s) f _ _ _ _ _ (begun g) (l .player) (l .next) (l .keys) (l .inv .0) (l .inv .3) _ (omega arith) (omega arith),
+    )
 
 put-again-requires : tie.Need-put-again-requires Inv-loop μ-loop
 unfolding board
 put-again-requires c κs =
-    let s = c .before .before .before .before .before .before .before .before .before .before .before .before .before .before .before .before .before .before .before .before .before .before in
+    let g = c .before .before .before .before .before .before .before .before in
+    let s = entry g in
+    let b = board-of (s .args .board) in
     let f = facts s in
-    let most = board-in (board-of (s .args .board)) (f .accepted) .players-most in
+    let most = board-in b (f .accepted) .players-most in
     let l = c .before .before .before .before .before .before .before .loop in
-    let room = again-room (board-of (s .args .board)) (lent-to s) f _ _ _ _ _ (begun (c .before .before .before .before .before .before .before .before)) (l .player) (l .next) (l .keys) (l .inv .0) (l .inv .3) _ (omega arith) (omega arith) _ (c .before .before .before .before .before .before .before .before .before .before .before .before .before .before .before .before .row-length .result) _ (c .before .before .before .before .before .before .before .before .before .before .before .before .before .before .before .before .row-length .ensures) (c .before .before .before .put-front2 .ensures) in
+    let room = again-room b (lent-to s) f _ _ _ _ _ (begun g) (l .player) (l .next) (l .keys) (l .inv .0) (l .inv .3) _ (omega arith) (omega arith) _
+    (g .before .before .before .before .before .before .before .before .row-length .result) _ (row-known g) (c .before .before .before .put-front2 .ensures) in
     (omega (arith, room .0), omega (arith, room .1))
 
 add-player : tie.Need-add-player Inv-loop μ-loop

@@ -63,7 +63,8 @@ returns-3 : tie.Need-returns-3
 returns-3 c =
     let n = c .before .before .before .before .before .before in
     let read = sym (n .numbers .given .1) ∙ n .before .before .header-in .ensures in
-    writes-as _ _ _ _ _ (asked-input _ _ _ read (sym (c .before .before .before .asked-refusal .ensures) ∙ c .before .before .if1 .left)) (c .put-dealt .ensures)
+    writes-as _ _ _ _ _ (asked-input _ _ _ read (sym (c .before .before .before .asked-refusal .ensures) ∙ c .before .before .if1 .left))
+    (c .put-dealt .ensures)
 
 pub dealing-program-spec : {M : Type 1} → statement M
 dealing-program-spec =

@@ -38,7 +38,8 @@ returns c =
     let s = c .before .before .before .before .before .before .before .before .before in
     let a = s .args in
     let fine = s .pre .0 in
-    dealt-written (board-of (a .board)) (a .point) (now (a .rest)) (fine .0) (fine .1) (fine .2) _ (now (a .output)) _ (omega arith) (c .before .before .before .deal-parts .ensures) _
+    dealt-written (board-of (a .board)) (a .point) (now (a .rest)) (fine .0) (fine .1) (fine .2) _ (now (a .output)) _ (omega arith)
+    (c .before .before .before .deal-parts .ensures) _
     (ap (λ (n : ℕ). a .board .players * n) (c .before .before .before .before .before .key-length .ensures)) (c .if1 .taken)
 
 put-refusal-requires : tie.Need-put-refusal-requires
@@ -53,7 +54,8 @@ returns-2 c =
     let s = c .before .before .before .before .before .before .before .before .before .before .before .before .before in
     let a = s .args in
     let fine = s .pre .0 in
-    dealt-refused (board-of (a .board)) (a .point) (now (a .rest)) (fine .0) (fine .1) (fine .2) _ (now (a .output)) _ (omega arith) (c .before .before .before .before .before .before .before .deal-parts .ensures) _ _
+    dealt-refused (board-of (a .board)) (a .point) (now (a .rest)) (fine .0) (fine .1) (fine .2) _ (now (a .output)) _ (omega arith)
+    (c .before .before .before .before .before .before .before .deal-parts .ensures) _ _
     (c .before .before .before .before .if1 .left) (c .before .before .put-refusal .ensures)
 
 pub put-dealt-spec : {M : Type 1} → statement M

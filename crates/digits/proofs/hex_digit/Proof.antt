@@ -1,7 +1,7 @@
 -- `digits::hex_digit` meets its contract. Assumes nothing.
-use borrow.Author.Tests.{lt-ltb, le-ltb}
-use Rattle.digits.specs.Digits.{hex-digit}
+use native.Mathlib.Omega.{arith}
 use borrow.Author.Needs.{needs}
+use Rattle.digits.proofs.Laws.{hex-figure, hex-letter}
 use Rattle.digits.proofs.hex_digit.Statement.{statement}
 use Rattle.digits.proofs.hex_digit.Tie as tie
 
@@ -12,12 +12,10 @@ add-result-2 : tie.Need-add-result-2
 add-result-2 c = search needs
 
 returns : tie.Need-returns
-unfolding hex-digit
-returns c = rw (lt-ltb _ 10 (c .if1 .taken))
+returns c = hex-figure (c .before .args .number) _ (omega arith) (omega arith)
 
 returns-2 : tie.Need-returns-2
-unfolding hex-digit
-returns-2 c = rw (le-ltb _ 10 (c .if1 .left))
+returns-2 c = hex-letter (c .before .args .number) _ (omega arith) (omega arith)
 
 pub hex-digit-spec : {M : Type 1} → statement M
 hex-digit-spec = tie.close (tie.spec add-result add-result-2 returns returns-2)

@@ -71,7 +71,8 @@ returns c =
     let a = c .before .before .before .before .before .before .before .args in
     let l = c .before .loop in
     let all : l .grid-row ≡ grid-rows (board-of (a .board)) = omega (arith, c .before .before .grid-rows .ensures) in
-    subst (λ (k : ℕ). Wrote (a .at) (body-from k (board-of (a .board)) (a .player) (now (a .arrays)) (now (a .seeds))) (l .next) (now (a .out)) (l .out)) all (l .inv .2)
+    subst (λ (k : ℕ). Wrote (a .at) (body-from k (board-of (a .board)) (a .player) (now (a .arrays)) (now (a .seeds))) (l .next) (now (a .out)) (l .out))
+    all (l .inv .2)
 
 mul-from : tie.Need-mul-from Inv-loop μ-loop
 mul-from c = omega (arith, room c)

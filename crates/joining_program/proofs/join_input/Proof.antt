@@ -21,7 +21,8 @@ same-length c = search needs
 
 returns-2 : tie.Need-returns-2
 returns-2 c =
-    let s = c .before .before .before .before .before .before .before in joined-here (now (s .args .input)) _ (now (s .args .table)) _ (omega arith) (s .pre) (c .before .before .join-keys .ensures)
+    let s = c .before .before .before .before .before .before .before in
+    joined-here (now (s .args .input)) _ (now (s .args .table)) _ (omega arith) (s .pre) (c .before .before .join-keys .ensures)
 
 pub join-input-spec : {M : Type 1} → statement M
 join-input-spec =

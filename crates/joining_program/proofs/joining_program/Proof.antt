@@ -31,7 +31,8 @@ returns-2 c =
     let known = c .before .before .before .before .before .before .before .before .before in
     let a = known .before .args in
     let good = good-by-entries (now (a .input)) (λ i _. known .shared-slice-known .given i .fits) in
-    joins-accepted (now (a .input)) _ (now (a .table)) _ (c .before .before .before .before .before .join-input .ensures) _ (now (a .output)) _ good (c .before .before .if1 .left) (c .put-joined .ensures)
+    joins-accepted (now (a .input)) _ (now (a .table)) _ (c .before .before .before .before .before .join-input .ensures) _ (now (a .output)) _ good
+    (c .before .before .if1 .left) (c .put-joined .ensures)
 
 pub joining-program-spec : {M : Type 1} → statement M
 joining-program-spec =

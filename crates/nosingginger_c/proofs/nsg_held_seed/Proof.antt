@@ -12,7 +12,8 @@ held-seed-place-requires c κs = search needs
 returns : tie.Need-returns
 returns c =
     let start = c .before .before in
-    held-told (now (start .args .key)) _ _ _ (good-by-entries (now (start .args .key)) (λ i _. c .before .shared-slice-known .given i .fits)) (c .held-seed-place .ensures)
+    held-told (now (start .args .key)) _ _ _ (good-by-entries (now (start .args .key)) (λ i _. c .before .shared-slice-known .given i .fits))
+    (c .held-seed-place .ensures)
 
 pub nsg-held-seed-spec : {M : Type 1} → statement M
 nsg-held-seed-spec = tie.close (tie.spec held-seed-place-requires returns)

@@ -103,8 +103,10 @@ loop-again c =
     let count = part-long at size in (
       omega (arith, inside (n .before), m .before .grid-rows .ensures),
       same-len-mid at (at + size - at) (l .out) new (done .add-part .kept .1 .1 .1 .0) ∙ l .inv .1,
-      row-added b (expand (row-long b)) (body s) (board-known s) (expansion b) (body-known m) (l .grid-row) (inside (n .before)) (now (s .args .out)) (l .out) _ new at (at + size - at) _
-          (at-is (n .before)) (count ∙ count-is b (board-known s) (l .grid-row) (inside (n .before)) _ _ size (m .row-length .ensures) (l .inv .1 ∙ out-long s) (n .least .ensures)) (l .inv .2)
+      row-added b (expand (row-long b)) (body s) (board-known s) (expansion b) (body-known m) (l .grid-row) (inside (n .before))
+          (now (s .args .out)) (l .out) _ new at (at + size - at) _ (at-is (n .before))
+          (count ∙ count-is b (board-known s) (l .grid-row) (inside (n .before)) _ _ size (m .row-length .ensures) (l .inv .1 ∙ out-long s) (n .least .ensures))
+          (l .inv .2)
           (p .row-part .ensures) (room ∙ sym count) (done .add-part .ensures) (omega (arith, end-within n, l .inv .1)),
     )
 

@@ -59,7 +59,8 @@ loop-again c =
       omega arith,
       added .kept .1 .1 .0 ∙ l .inv .1,
       good-by-entries _ (λ i within. c .slice-known2 .given i .fits),
-      words-turn (now (a .part)) (now (a .words)) (a .row-bytes) (a .from) (length (now (a .out))) (a .columns) (l .column) _ (l .out) _ _ _ (here .before .loop-test .taken) (l .inv .3)
+      words-turn (now (a .part)) (now (a .words)) (a .row-bytes) (a .from) (length (now (a .out))) (a .columns) (l .column) _ (l .out) _ _ _
+          (here .before .loop-test .taken) (l .inv .3)
           (word-is at (length (l .out)) (length (now (a .out))) (now (a .words)) (l .inv .1)) (here .mark .ensures) (added .ensures),
     )
 

@@ -30,7 +30,8 @@ loop-again c =
     let a = c .before .before .before .before .before .before .before .before .before .args in
     let n = length (now (a .out)) in
     let put = c .before .before .xor-row in
-    (omega arith, put .kept .1 .0 ∙ l .inv .1, rows-turn (l .seed) n (now (a .seeds)) (now (a .out)) (l .inv .2) (row-is (length (l .out)) n (32 * l .seed) (now (a .seeds)) (l .inv .1)) (put .ensures))
+    let row = row-is (length (l .out)) n (32 * l .seed) (now (a .seeds)) (l .inv .1) in
+    (omega arith, put .kept .1 .0 ∙ l .inv .1, rows-turn (l .seed) n (now (a .seeds)) (now (a .out)) (l .inv .2) row (put .ensures))
 
 mul-from : tie.Need-mul-from Inv-loop μ-loop
 mul-from c = omega arith
