@@ -306,7 +306,7 @@ const OPERATIONS = {
 };
 
 test('the second implementation\u2019s answers, all cases of the eleven operations', () => {
-    const file = readFileSync(new URL('crates/compare/data/cases.bin', root));
+    const file = readFileSync(new URL('crates/test_compare/data/cases.bin', root));
     assert.equal(file.toString('latin1', 0, 8), 'NGCASES1');
     const bytes = new Uint8Array(file);
     const view = new DataView(bytes.buffer);

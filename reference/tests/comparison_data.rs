@@ -67,7 +67,7 @@ fn the_data_is_enough_and_the_same_each_time() {
 fn the_committed_file_is_what_is_made() {
     let path = concat!(
         env!("CARGO_MANIFEST_DIR"),
-        "/../crates/compare/data/cases.bin"
+        "/../crates/test_compare/data/cases.bin"
     );
     let committed = fs::read(path).expect("the committed file");
     assert!(committed == write_file(&all()), "run reference/make-data");

@@ -151,7 +151,7 @@ fn among_joined_keys() {
     }
 }
 
-/// The stored output of the library's own trial program (crates/keys_trial) is what this implementation answers for the same key.
+/// The stored output of the library's own trial program (crates/test_keys) is what this implementation answers for the same key.
 #[test]
 fn the_library_answers_the_same() {
     let mut key = [7u8; 79];
@@ -180,6 +180,6 @@ fn the_library_answers_the_same() {
             expected.push_str(&format!("grid row {grid_row} column {column}: {place}\n"));
         }
     }
-    let stored = concat!(env!("CARGO_MANIFEST_DIR"), "/../crates/keys_trial/stdout");
+    let stored = concat!(env!("CARGO_MANIFEST_DIR"), "/../crates/test_keys/stdout");
     assert_eq!(std::fs::read_to_string(stored).unwrap(), expected);
 }

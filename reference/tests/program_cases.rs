@@ -8,7 +8,7 @@ use std::fs;
 use std::path::Path;
 
 /// The stored files, from this folder.
-const STORED: &str = "../crates/program_cases/data";
+const STORED: &str = "../crates/test_programs/data";
 
 /// Every number that each program can give, 0 for acceptance.
 const ANSWERS: [(&str, &[u32]); 2] = [

@@ -11,19 +11,19 @@ use lib.ListN.{length, take, drop, length-set}
 use lib.Seq.{take-take, take-append-add, take-append-le, drop-at, drop-drop}
 use Rattle.xor.specs.Xor.{zeros, bytes-good}
 use Rattle.xor.proofs.Laws.{Word, word-append, word-take, good-cons}
-use Rattle.chacha20.specs.Expand.{full, add, mixed, quarter, double-round, rounds, key-words, word-at, at, opening, sums, low-bytes, block, blocks, expand}
-use Rattle.chacha20.specs.Rfc8439.{constant, opening-state, chacha20-block, stream-blocks, key-stream, Rows-by-rfc8439}
+use Rattle.chacha20.specs.Expand.{full, add, mixed, quarter, double-round, rounds, key-words, word-at, at, seed-state, sums, low-bytes, block, blocks, expand}
+use Rattle.chacha20.specs.Rfc8439.{constant, initial-state, chacha20-block, stream-blocks, key-stream, Rows-by-rfc8439}
 use Rattle.chacha20.proofs.Parts.{length-sums, length-low-bytes}
 
 -- DOCUMENT 03'S definitions are the instance
 
-pub opening-is : (seed : List ℕ) (c : ℕ) → opening seed c ≡ opening-state seed c (zeros 12)
-unfolding opening opening-state constant key-words word-at at zeros
-opening-is seed c = refl
+pub seed-state-is : (seed : List ℕ) (c : ℕ) → seed-state seed c ≡ initial-state seed c (zeros 12)
+unfolding seed-state initial-state constant key-words word-at at zeros
+seed-state-is seed c = refl
 
 pub block-is : (seed : List ℕ) (c : ℕ) → block seed c ≡ chacha20-block seed c (zeros 12)
 unfolding block chacha20-block
-block-is seed c = rw (opening-is seed c)
+block-is seed c = rw (seed-state-is seed c)
 
 pub blocks-is : (k c : ℕ) (seed : List ℕ) → blocks k c seed ≡ stream-blocks k c seed (zeros 12)
 unfolding blocks stream-blocks
@@ -52,9 +52,9 @@ unfolding rounds double-round
 length-rounds zero xs = refl
 length-rounds (suc k) xs = length-rounds k (double-round xs) ∙ simp length-quarter
 
-length-opening-state : (key nonce : List ℕ) (c : ℕ) → length (opening-state key c nonce) ≡ 16
-unfolding opening-state key-words
-length-opening-state key nonce c = refl
+length-initial-state : (key nonce : List ℕ) (c : ℕ) → length (initial-state key c nonce) ≡ 16
+unfolding initial-state key-words
+length-initial-state key nonce c = refl
 
 -- BYTES: a sum is a word, and a word has four bytes
 
@@ -74,9 +74,9 @@ sums-good (x ∷ xs) (y ∷ ys) = word-good ((x + y) % full) (low-bytes (sums xs
 pub word-block : (key nonce : List ℕ) (c : ℕ) → Word 64 (chacha20-block key c nonce)
 unfolding chacha20-block
 word-block key nonce c =
-    let start = opening-state key c nonce in
+    let start = initial-state key c nonce in
     let same = length-rounds 10 start in
-    let words : length (sums (rounds 10 start) start) ≡ 16 = length-sums (rounds 10 start) start same ∙ same ∙ length-opening-state key nonce c in
+    let words : length (sums (rounds 10 start) start) ≡ 16 = length-sums (rounds 10 start) start same ∙ same ∙ length-initial-state key nonce c in
     record {
       long = length-low-bytes (sums (rounds 10 start) start) ∙ ap (λ (n : ℕ). 4 * n) words;
       good = sums-good (rounds 10 start) start;

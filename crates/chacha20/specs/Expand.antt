@@ -22,8 +22,8 @@ unfoldable pub xor-word : (a b : ℕ) → ℕ
 xor-word a b = xor-from 32 a b
 
 -- 2.1: "'<<< n' denotes an n-bit left roll (towards the high bits)"
-unfoldable pub turned : (v n : ℕ) → ℕ
-turned v n = v * 2 ^ n % full + v / 2 ^ (32 - n)
+unfoldable pub rolled : (v n : ℕ) → ℕ
+rolled v n = v * 2 ^ n % full + v / 2 ^ (32 - n)
 
 -- 2.2: the state's word with an index
 unfoldable pub at : List ℕ → (i : ℕ) → ℕ
@@ -32,7 +32,7 @@ at xs i = getD xs i 0
 -- 2.1, one of the four lines, a += b; d ^= a; d <<<= n: a half step
 unfoldable pub mixed : (a b d n : ℕ) → List ℕ → List ℕ
 mixed a b d n xs =
-    let s = add (at xs a) (at xs b) in set (set xs a s) d (turned (xor-word (at xs d) s) n)
+    let s = add (at xs a) (at xs b) in set (set xs a s) d (rolled (xor-word (at xs d) s) n)
 
 -- 2.1, 2.2: QUARTERROUND(a, b, c, d), its four lines one after another
 unfoldable pub quarter : (a b c d : ℕ) → List ℕ → List ℕ
@@ -59,8 +59,8 @@ key-words zero i bs = []
 key-words (suc k) i bs = word-at bs i ∷ key-words k (4 + i) bs
 
 -- 2.3: constants, key, block counter, and here a nonce of zeros
-unfoldable pub opening : (seed : List ℕ) → (counter : ℕ) → List ℕ
-opening bs c = (1634760805 ∷ 857760878 ∷ 2036477234 ∷ 1797285236 ∷ []) ++ key-words 8 0 bs ++ (c ∷ 0 ∷ 0 ∷ 0 ∷ [])
+unfoldable pub seed-state : (seed : List ℕ) → (counter : ℕ) → List ℕ
+seed-state bs c = (1634760805 ∷ 857760878 ∷ 2036477234 ∷ 1797285236 ∷ []) ++ key-words 8 0 bs ++ (c ∷ 0 ∷ 0 ∷ 0 ∷ [])
 
 -- 2.3: "we add the original input words to the output words"
 unfoldable pub sums : List ℕ → List ℕ → List ℕ
@@ -75,7 +75,7 @@ low-bytes (x ∷ xs) = (x % 256) ∷ (x / 256 % 256) ∷ (x / 65536 % 256) ∷ (
 
 -- 2.3: the block function, at the nonce twelve zeros (document 01)
 unfoldable pub block : (seed : List ℕ) → (counter : ℕ) → List ℕ
-block bs c = low-bytes (sums (rounds 10 (opening bs c)) (opening bs c))
+block bs c = low-bytes (sums (rounds 10 (seed-state bs c)) (seed-state bs c))
 
 -- 2.4: the blocks of successive counters, one after another
 unfoldable pub blocks : (left c : ℕ) → (seed : List ℕ) → List ℕ

@@ -1,4 +1,4 @@
--- RFC 8439's ChaCha20 by key, block counter and nonce, over document 03's rounds: quarter rounds by places, the opening state, the
+-- RFC 8439's ChaCha20 by key, block counter and nonce, over document 03's rounds: quarter rounds by places, the initial state, the
 -- block function and the key stream. Document 03's `block` and `expand` are its instances with the nonce twelve zeros and the counter
 -- from 0: `Rows-by-rfc8439`, a statement whose term is in proofs/Stream.antt. Assumes nothing: these are definitions and one statement.
 use mathlib.Core.Path.{_≡_}
@@ -22,13 +22,13 @@ constant =
     101 ∷ 120 ∷ 112 ∷ 97 ∷ 110 ∷ 100 ∷ 32 ∷ 51 ∷ 50 ∷ 45 ∷ 98 ∷ 121 ∷ 116 ∷ 101 ∷ 32 ∷ 107 ∷ []
 
 -- 2.3: the constant, eight words of the key, the block counter, three words of the nonce, all read as little-endian
-unfoldable pub opening-state : (key : List ℕ) → (counter : ℕ) → (nonce : List ℕ) → List ℕ
-opening-state key c nonce = key-words 4 0 constant ++ key-words 8 0 key ++ (c ∷ key-words 3 0 nonce)
+unfoldable pub initial-state : (key : List ℕ) → (counter : ℕ) → (nonce : List ℕ) → List ℕ
+initial-state key c nonce = key-words 4 0 constant ++ key-words 8 0 key ++ (c ∷ key-words 3 0 nonce)
 
--- 2.3.1, chacha20_block: ten double rounds, then the opening state added, then serialized
+-- 2.3.1, chacha20_block: ten double rounds, then the initial state added, then serialized
 unfoldable pub chacha20-block : (key : List ℕ) → (counter : ℕ) → (nonce : List ℕ) → List ℕ
 chacha20-block key c nonce =
-    low-bytes (sums (rounds 10 (opening-state key c nonce)) (opening-state key c nonce))
+    low-bytes (sums (rounds 10 (initial-state key c nonce)) (initial-state key c nonce))
 
 -- 2.4: the blocks of successive counters, one after another
 unfoldable pub stream-blocks : (left c : ℕ) → (key nonce : List ℕ) → List ℕ

@@ -1,11 +1,11 @@
 // ChaCha20 by RFC 8439, to be held beside it: section 2.1's quarter round and 2.3's twenty rounds, under the RFC's names and in its order.
-// Crate state_words makes the state that they start from and serializes the one that they end with, crate blocks has 2.3's block function
+// Crate chacha20_words makes the state that they start from and serializes the one that they end with, crate chacha20_blocks has 2.3's block function
 // and 2.4's key stream. Document 01's rows are the key stream with the seed as key, the nonce twelve zeros and the block counter from 0:
-// crate one_row makes them. The meanings of all of it stand in specs/Expand.antt and specs/Rfc8439.antt, and specs/Lines.antt has the lines
+// crate seed_row makes them. The meanings of all of it stand in specs/Expand.antt and specs/Rfc8439.antt, and specs/Lines.antt has the lines
 // that are stepped together for speed. Assumes nothing.
 ghost use mathlib.Core.Path.{_≡_};
 ghost use Prim.Native.Nat.{_<_};
-ghost use Rattle.chacha20.specs.Expand.{turned, xor-word, mixed, double-round, rounds};
+ghost use Rattle.chacha20.specs.Expand.{rolled, xor-word, mixed, double-round, rounds};
 ghost use Rattle.chacha20.specs.Rfc8439.{Places, quarter-at};
 ghost use Rattle.chacha20.specs.Lines.{odd-lines, even-lines, Lines};
 
@@ -24,7 +24,7 @@ pub const QUARTER_ROUNDS: [[usize; 4]; 8] = [
 // 2.1: word ^= sum; word <<<= roll
 fn xor_roll(word: u32, sum: u32, roll: u32) -> u32
     requires { ⌜ (0 < roll) × (roll < 32) ⌝ }
-    ensures { λ r. ⌜ r ≡ turned (xor-word word sum) roll ⌝ }
+    ensures { λ r. ⌜ r ≡ rolled (xor-word word sum) roll ⌝ }
 {
     let mixed = word ^ sum;
     (mixed << roll) | (mixed >> (32 - roll))

@@ -14,11 +14,11 @@ use Rattle.grid.proofs.Facts.{board-in}
 use Rattle.grid.proofs.Sizes.{row-most, columns-few, arrays-most}
 use Rattle.keys.specs.Keys.{Lent, key-long, deal-refusal}
 use Rattle.keys.proofs.Accepted.{passed, refusing}
-use Rattle.last_word.specs.LastWord as LastWord
-use Rattle.dealing.specs.Dealt as Dealt
-use Rattle.entry.specs.Entry.{or-else, in-front, lent, rule, Deal-says}
+use Rattle.deal_last_word.specs.LastWord as LastWord
+use Rattle.deal_keys.specs.Dealt as Dealt
+use Rattle.call_answers.specs.Answers.{or-else, in-front, lent, rule, Deal-says}
 use Rattle.deal_call.specs.Lent.{lent-fits}
-use Rattle.entry.proofs.Answering.{put-number, put-done, first-fits, next-fits}
+use Rattle.call_answers.proofs.Answering.{put-number, put-done, first-fits, next-fits}
 
 -- THE LENGTHS
 

@@ -1,18 +1,18 @@
 // Dealing: the refusals 1 to 9 in their order, and the keys of all players. Nothing is written before all is asked. Assumes nothing.
-use array_check::arrays_good;
-use entry::refusals::ACCEPTED;
-use entry::refusals::REFUSED_ARRAYS;
-use entry::refusals::REFUSED_LENT;
-use entry::refusals::REFUSED_POINT;
-use entry::refusals::REFUSED_ROOM;
+use call_answers::refusals::ACCEPTED;
+use call_answers::refusals::REFUSED_ARRAYS;
+use call_answers::refusals::REFUSED_LENT;
+use call_answers::refusals::REFUSED_POINT;
+use call_answers::refusals::REFUSED_ROOM;
 use grid::board::Board;
+use grid_arrays::arrays_good;
 use key_lengths::SEED_BYTES;
 use key_lengths::key_length;
 ghost use mathlib.Core.Path.{_≡_};
 ghost use Rattle.grid.specs.Grid.{board-refusal};
 ghost use Rattle.grid.specs.Code.{board-of};
 ghost use Rattle.keys.specs.Keys.{deal-refusal};
-ghost use Rattle.entry.specs.Entry.{lent, Deal-says};
+ghost use Rattle.call_answers.specs.Answers.{lent, Deal-says};
 ghost use Rattle.deal_call.specs.Lent.{lent-fits};
 
 // Whether value, arrays, seeds and words have the lengths that the board asks.
@@ -89,6 +89,6 @@ pub fn deal(
     if keys.len() < players as usize * key_length(board) {
         return REFUSED_ROOM;
     }
-    dealing::deal_keys(board, point, value, arrays, seeds, words, keys);
+    deal_keys::deal_keys(board, point, value, arrays, seeds, words, keys);
     ACCEPTED
 }

@@ -11,7 +11,7 @@ use lib.ListN.{length, getD}
 use lib.Pow.{pow-pos}
 use borrow.Author.Tests.{eqb-true, eqb-false, not-true}
 use Rattle.grid.specs.Grid.{Board, columns, grid-rows, bit, column, is-odd, other-marks, unheld-from}
-use Rattle.grid.specs.Arrays.{Accepted, Each-column-once, marked, Half-is-marked, Half-of-each-row, Left-alone, unheld-column, One-row-unheld}
+use Rattle.grid.specs.Arrays.{Accepted, Each-column-once, count-marked, Half-is-marked, Half-of-each-grid-row, Left-alone, unheld-column, One-row-unheld}
 use Rattle.grid.specs.Moving.{mended}
 use Rattle.grid.proofs.Columns.{half-fixes, others-and-parity-fix, none-marked, some-marked, others-none, mended-low, mended-parity, mended-alone, without, without-low, bit-and-half-fix}
 use Rattle.grid.proofs.Facts.{Board-in, board-in, columns-twice, columns-half, array-in, array-of, array-at, array-long, Arrays-in, facts}
@@ -88,23 +88,23 @@ half-counted b f o col a i h =
     omega arith
 
 -- the columns that a player marks, counted by place
-marked-is : (i : ℕ) (cs : List ℕ) → marked i cs ≡ count (length cs) (λ j. bit (getD cs j 0) i)
-unfolding marked count
-marked-is i [] = refl
-marked-is i (c ∷ cs) = ap (λ (m : ℕ). cond (bit c i) 1 0 + m) (marked-is i cs) ∙ sym (count-first (length cs) (λ j. bit (getD (c ∷ cs) j 0) i))
+count-marked-is : (i : ℕ) (cs : List ℕ) → count-marked i cs ≡ count (length cs) (λ j. bit (getD cs j 0) i)
+unfolding count-marked count
+count-marked-is i [] = refl
+count-marked-is i (c ∷ cs) = ap (λ (m : ℕ). cond (bit c i) 1 0 + m) (count-marked-is i cs) ∙ sym (count-first (length cs) (λ j. bit (getD (c ∷ cs) j 0) i))
 
 pub half-is-marked : Half-is-marked
 unfolding Half-is-marked
 half-is-marked b o cs t i h =
-    marked-is i cs ∙ ap (λ (n : ℕ). count n (λ j. bit (getD cs j 0) i)) (t .long)
+    count-marked-is i cs ∙ ap (λ (n : ℕ). count n (λ j. bit (getD cs j 0) i)) (t .long)
     ∙ half-counted b (board-in b (t .board)) o (λ j. getD cs j 0) (listed-array b o cs t) i h
 
-pub half-of-each-row : Half-of-each-row
-unfolding Half-of-each-row array-of
-half-of-each-row b d i g good h l =
+pub half-of-each-grid-row : Half-of-each-grid-row
+unfolding Half-of-each-grid-row array-of
+half-of-each-grid-row b d i g good h l =
     let f = facts b d good in
     let cs = array-of b (d .arrays) g in
-    marked-is i cs ∙ ap (λ (n : ℕ). count n (λ j. bit (getD cs j 0) i)) (array-long b (d .arrays) (f .arrays .long) g l)
+    count-marked-is i cs ∙ ap (λ (n : ℕ). count n (λ j. bit (getD cs j 0) i)) (array-long b (d .arrays) (f .arrays .long) g l)
     ∙ count-same (columns b) (λ j. bit (getD cs j 0) i) (λ j. bit (column b (d .arrays) g j) i) (λ j q. ap (λ (c : ℕ). bit c i) (array-at b (d .arrays) g j q))
     ∙ half-counted b (f .board) (eqb g (d .point / b .wide)) (λ j. column b (d .arrays) g j) (row-array b (d .point / b .wide) (d .arrays) (f .arrays) g l) i h
 

@@ -20,20 +20,20 @@ Each-column-once =
     (j : ℕ) × (j < columns b) × (getD cs j 0 ≡ c) × ((k : ℕ) → k < columns b → getD cs k 0 ≡ c → k ≡ j)
 
 -- how many columns of an array a player marks
-unfoldable pub marked : (player : ℕ) → List ℕ → ℕ
-marked i [] = 0
-marked i (c ∷ cs) = cond (bit c i) 1 0 + marked i cs
+unfoldable pub count-marked : (player : ℕ) → List ℕ → ℕ
+count-marked i [] = 0
+count-marked i (c ∷ cs) = cond (bit c i) 1 0 + count-marked i cs
 
 -- "A player marks exactly J/2 columns."
 unfoldable pub Half-is-marked : Type 0
 Half-is-marked =
-    (b : Board) (odd : Bool) (cs : List ℕ) → Accepted b odd cs → (i : ℕ) → i < b .p → marked i cs ≡ columns b / 2
+    (b : Board) (odd : Bool) (cs : List ℕ) → Accepted b odd cs → (i : ℕ) → i < b .p → count-marked i cs ≡ columns b / 2
 
 -- the same of each grid row of a good dealing
-unfoldable pub Half-of-each-row : Type 0
-Half-of-each-row =
+unfoldable pub Half-of-each-grid-row : Type 0
+Half-of-each-grid-row =
     (b : Board) (d : Dealing) (i g : ℕ) → dealing-good b d ≡ true → i < b .p → g < grid-rows b →
-    marked i (take (columns b) (drop (g * columns b) (d .arrays))) ≡ columns b / 2
+    count-marked i (take (columns b) (drop (g * columns b) (d .arrays))) ≡ columns b / 2
 
 -- no player but one marks a column
 unfoldable pub Left-alone : Board → (player column : ℕ) → Type 0

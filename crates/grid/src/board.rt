@@ -48,7 +48,7 @@ pub fn within(low: u32, number: u32, high: u32) -> bool
 }
 
 // Grid rows for so many positions: their number over the width, rounded up.
-fn rows_for(positions: u32, width: u32) -> u32
+fn grid_rows_for(positions: u32, width: u32) -> u32
     requires { ⌜ (positions ≤ 65536) × (1 ≤ width) × (width ≤ 256) ⌝ }
     ensures { λ r. ⌜ r ≡ (positions + width - 1) / width ⌝ }
 {
@@ -80,7 +80,7 @@ impl Board {
         if !within(1, self.value_bytes, MOST_VALUE_BYTES) {
             return REFUSED_VALUE_BYTES;
         }
-        if MOST_GRID_ROWS < rows_for(self.positions, self.width) {
+        if MOST_GRID_ROWS < grid_rows_for(self.positions, self.width) {
             return REFUSED_GRID_ROWS;
         }
         ACCEPTED
@@ -99,7 +99,7 @@ impl Board {
         requires { ⌜ board-refusal (board-of self) ≡ 0 ⌝ }
         ensures { λ r. ⌜ r ≡ grid-rows (board-of self) ⌝ }
     {
-        rows_for(self.positions, self.width) as usize
+        grid_rows_for(self.positions, self.width) as usize
     }
 
     // Bytes of a row or of a word: μ × w.

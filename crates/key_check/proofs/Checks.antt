@@ -13,13 +13,13 @@ use Rattle.grid.specs.Grid.{Board, board, board-refusal, columns, grid-rows, ro
 use Rattle.grid.specs.Code.{board-of}
 use Rattle.grid.proofs.Facts.{board-in}
 use Rattle.keys.specs.Keys.{header, stride, key-long, marks-good, key-refusal}
-use Rattle.key_reading.specs.Answers.{heading-in}
+use Rattle.key_header.specs.Answers.{heading-in}
 use Rattle.key_check.specs.Checked.{head-numbers, checked-as, key-checked}
-use Rattle.key_reading.specs.declared.Reader.{Reader}
-use Rattle.key_reading.specs.declared.Header.{Header}
-use Rattle.key_reading.specs.declared.Heading.{Heading}
+use Rattle.key_header.specs.declared.Reader.{Reader}
+use Rattle.key_header.specs.declared.Header.{Header}
+use Rattle.key_header.specs.declared.Heading.{Heading}
 use Rattle.key_check.specs.declared.check.KeyCheck.{KeyCheck}
-use Rattle.key_reading.proofs.Reading.{heading-says, heading-none}
+use Rattle.key_header.proofs.Reading.{heading-says, heading-none}
 use Rattle.key_lengths.proofs.Lengths.{long-is}
 
 -- the answer of a refused key

@@ -9,13 +9,13 @@ use lib.ListN.{length, drop}
 use Rattle.xor.specs.Xor.{bytes-good}
 use Rattle.grid.specs.Grid.{board-refusal, columns, grid-rows}
 use Rattle.grid.specs.Code.{board-of}
-use Rattle.keys.specs.Keys.{header, stride, head-in, key-refusal, row-part}
+use Rattle.keys.specs.Keys.{header, stride, head-in, key-refusal, grid-row-part}
 use Rattle.keys.specs.Held.{marked, seed-from, holds, held-seed-place}
 use Rattle.keys.proofs.Counting.{count-most}
 use Rattle.keys.proofs.Accepted.{key-in}
 use Rattle.keys.proofs.Holding.{row-place, nowhere}
-use Rattle.key_reading.specs.declared.Header.{Header}
-use Rattle.key_reading.specs.Answers.{header-written}
+use Rattle.key_header.specs.declared.Header.{Header}
+use Rattle.key_header.specs.Answers.{header-written}
 use Rattle.key_lengths.proofs.Lengths.{columns-in, mark-bytes-in, row-in, header-most}
 use Rattle.key_check.specs.Checked.{checked-as, key-checked}
 use Rattle.key_check.specs.declared.check.KeyCheck.{KeyCheck}
@@ -60,7 +60,7 @@ module _ (ks : List ℕ) (g j : ℕ) where
           (from : ℕ) (begins : from ≡ length (header-written h) + g * stride (board-of (h .board)))
           (part : List ℕ) (cut : part ≡ drop from ks) (m : Bool) (seen : m ≡ marked part j)
         where
-          there : (row-part (head-in ks .board) (head-in ks .rest) g ≡ part) × (length (header (head-in ks .board) (head-in ks .player)) + g * stride (head-in ks .board) ≡ from)
+          there : (grid-row-part (head-in ks .board) (head-in ks .rest) g ≡ part) × (length (header (head-in ks .board) (head-in ks .player)) + g * stride (head-in ks .board) ≡ from)
           unfolding header-written
           there =
               let at : length (header (head-in ks .board) (head-in ks .player)) + g * stride (head-in ks .board) ≡ from = rw (a .board-is, a .player-is) (sym begins) in

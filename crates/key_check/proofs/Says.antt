@@ -9,7 +9,7 @@ use Rattle.grid.specs.Code.{board-of}
 use Rattle.grid.proofs.Facts.{board-accepted}
 use Rattle.keys.specs.Keys.{head-in, key-refusal}
 use Rattle.keys.proofs.Accepted.{key-in}
-use Rattle.key_reading.specs.declared.Header.{Header}
+use Rattle.key_header.specs.declared.Header.{Header}
 use Rattle.key_check.specs.Checked.{head-numbers, checked-as, key-checked}
 use Rattle.key_check.specs.declared.check.KeyCheck.{KeyCheck}
 

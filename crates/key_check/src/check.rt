@@ -1,10 +1,10 @@
 // The check of a key: bytes of every kind are read, and the first number that fits is answered.
+use key_header::Header;
+use key_header::Heading;
+use key_header::header_in;
+use key_header::part_from;
 use key_lengths::key_length;
-use key_reading::Header;
-use key_reading::Heading;
-use key_reading::header_in;
-use key_reading::part_from;
-use key_rows::marks_good;
+use key_marks::marks_good;
 ghost use mathlib.Core.Path.{_≡_};
 ghost use Rattle.key_check.specs.Checked.{checked-as, key-checked};
 

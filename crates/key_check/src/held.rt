@@ -2,11 +2,11 @@
 // what was lent and never a copy.
 use crate::check::KeyCheck;
 use crate::check::check_key;
+use key_header::part_from;
 use key_lengths::SEED_BYTES;
 use key_lengths::grid_row_from;
-use key_reading::part_from;
-use key_rows::mark;
-use key_rows::seed_from;
+use key_marks::mark;
+use key_marks::seed_from;
 ghost use mathlib.Core.Path.{_≡_};
 ghost use Rattle.keys.specs.Held.{held-seed-place, held-seed};
 

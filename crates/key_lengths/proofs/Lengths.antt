@@ -13,8 +13,8 @@ use Rattle.grid.specs.Code.{board-of}
 use Rattle.grid.proofs.Facts.{board-in, columns-pos, columns-most}
 use Rattle.grid.proofs.Sizes.{row-most}
 use Rattle.keys.specs.Keys.{groups, number-bytes, header, mark-bytes, stride, key-long}
-use Rattle.key_reading.specs.Answers.{header-written}
-use Rattle.key_reading.specs.declared.Header.{Header}
+use Rattle.key_header.specs.Answers.{header-written}
+use Rattle.key_header.specs.declared.Header.{Header}
 use Rattle.keys.proofs.Numbers.{one-group, two-groups, header-long}
 
 pub one-long : (v : ℕ) → v < 128 → length (number-bytes v) ≡ 1

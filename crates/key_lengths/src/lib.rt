@@ -1,14 +1,14 @@
 // How long things are in a key, and where a grid row begins: a number, a header, a grid row's marks, a grid row, and the whole key of an
 // accepted board. Assumes nothing.
 use grid::board::Board;
-use key_reading::Header;
+use key_header::Header;
 ghost use mathlib.Core.Path.{_≡_};
 ghost use Prim.Native.Nat.{_+_, _*_, _≤_};
 ghost use lib.ListN.{length};
 ghost use Rattle.grid.specs.Grid.{board-refusal, grid-rows};
 ghost use Rattle.grid.specs.Code.{board-of};
 ghost use Rattle.keys.specs.Keys.{number-bytes, mark-bytes, stride, key-long};
-ghost use Rattle.key_reading.specs.Answers.{header-written};
+ghost use Rattle.key_header.specs.Answers.{header-written};
 
 // Bytes of a seed.
 pub const SEED_BYTES: usize = 32;

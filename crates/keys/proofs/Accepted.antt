@@ -13,7 +13,7 @@ use Rattle.xor.specs.Xor.{bytes-good}
 use Rattle.xor.proofs.Laws.{Word, word-append, good-right, good-drop}
 use Rattle.grid.specs.Grid.{Board, columns, grid-rows, row-long, board-refusal, each-long}
 use Rattle.grid.proofs.Facts.{Board-in, board-in, board-accepted}
-use Rattle.keys.specs.Keys.{header, head-in, stride, marks-good, key-refusal, key-long, glued, words-from, Parts, parts-of, parts-in, rows-written, key-written}
+use Rattle.keys.specs.Keys.{header, head-in, stride, marks-good, key-refusal, key-long, glued, words-from, Parts, parts-of, parts-in, grid-rows-written, key-written}
 use Rattle.keys.proofs.Lists.{length-words, glue-words, each-words, length-glued, good-glued, words-glue}
 use Rattle.keys.proofs.Numbers.{header-again, header-read-back, header-good, header-long}
 use Rattle.keys.proofs.Parts.{Rows-good, marks-back, seeds-back, marks-good-back, rows-word, rows-read-good, rows-again}
@@ -123,7 +123,7 @@ body-parts b bs f k =
 
 -- and write it again
 pub body-again : (b : Board) (bs : List ℕ) → Board-in b → Body-in b bs →
-    rows-written (grid-rows b) b (parts-of b bs .marks) (parts-of b bs .seeds) ++ glued (parts-of b bs .words) ≡ bs
+    grid-rows-written (grid-rows b) b (parts-of b bs .marks) (parts-of b bs .seeds) ++ glued (parts-of b bs .words) ≡ bs
 unfolding parts-of
 body-again b bs f k =
     let rows = grid-rows b * stride b in
@@ -141,13 +141,13 @@ key-again ks r g =
     let q = parts-of b rest in
     header-again ks g (k .header-good)
     ∙ ap (λ (l : List ℕ). header b i ++ l) (sym (body-again b rest (k .board) (body-in ks g k)))
-    ∙ sym (append-assoc (header b i) (rows-written (grid-rows b) b (q .marks) (q .seeds)) (glued (q .words)))
+    ∙ sym (append-assoc (header b i) (grid-rows-written (grid-rows b) b (q .marks) (q .seeds)) (glued (q .words)))
 
 -- GOOD PARTS WRITTEN
 
 module _ (b : Board) (i : ℕ) (f : Board-in b) (h : i < b .p) (q : Parts) (good : Parts-good b q) where
   abbrev rows-of : List ℕ
-  rows-of = rows-written (grid-rows b) b (q .marks) (q .seeds)
+  rows-of = grid-rows-written (grid-rows b) b (q .marks) (q .seeds)
 
   abbrev body : List ℕ
   body = rows-of ++ glued (q .words)

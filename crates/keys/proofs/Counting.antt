@@ -12,7 +12,7 @@ use lib.Dec.{eqb}
 use lib.ListN.{getD, drop}
 use Rattle.grid.specs.Grid.{Board, columns, bit}
 use Rattle.keys.specs.Keys.{mark-bytes, count-marks, spare-from, stride, marks-good}
-use Rattle.keys.specs.Held.{marked, row-fits}
+use Rattle.keys.specs.Held.{marked, grid-row-fits}
 
 -- the next column's mark, and the marks behind it
 pub count-next : (ps : List ℕ) (until column : ℕ) → column < until
@@ -62,8 +62,8 @@ count-short ps column e = omega (arith, count-most (column - 0) 0 ps)
 
 -- a grid row by its two counts
 pub row-unfit : (b : Board) (ps : List ℕ) (columns-now marks : ℕ) → columns-now ≡ columns b → marks ≡ count-marks (columns-now - 0) 0 ps
-    → (marks ≡ columns-now / 2 → ⊥) → false ≡ row-fits b ps
-unfolding row-fits
+    → (marks ≡ columns-now / 2 → ⊥) → false ≡ grid-row-fits b ps
+unfolding grid-row-fits
 row-unfit b ps j marks e f h =
     let whole : columns b - 0 ≡ columns b = omega arith in
     let count : count-marks (columns b) 0 ps ≡ marks = cc in
@@ -71,8 +71,8 @@ row-unfit b ps j marks e f h =
 
 pub row-fit : (b : Board) (ps : List ℕ) (columns-now marks bytes spare : ℕ) → columns-now ≡ columns b → bytes ≡ mark-bytes b
     → marks ≡ count-marks (columns-now - 0) 0 ps → marks ≡ columns-now / 2 → spare ≡ count-marks (8 * bytes - columns-now) columns-now ps
-    → eqb spare 0 ≡ row-fits b ps
-unfolding row-fits
+    → eqb spare 0 ≡ grid-row-fits b ps
+unfolding grid-row-fits
 row-fit b ps j marks bytes spare e m f h g =
     let whole : columns b - 0 ≡ columns b = omega arith in
     let count : count-marks (columns b) 0 ps ≡ marks = cc in
@@ -80,14 +80,14 @@ row-fit b ps j marks bytes spare e m f h g =
 
 -- GRID ROW BY GRID ROW: what is left to see decides the same, until a row does not fit
 module _ (b : Board) (ps : List ℕ) (left : ℕ) (all : Bool) (same : marks-good left b ps ≡ all) where
-  first-row : 0 < left → all ≡ (row-fits b ps && marks-good (left - 1) b (drop (stride b) ps))
-  unfolding marks-good row-fits
+  first-row : 0 < left → all ≡ (grid-row-fits b ps && marks-good (left - 1) b (drop (stride b) ps))
+  unfolding marks-good grid-row-fits
   first-row h = let one : left ≡ suc (left - 1) = omega arith in sym same ∙ ap (λ (k : ℕ). marks-good k b ps) one
 
-  pub rows-broken : (fits : Bool) → 0 < left → fits ≡ row-fits b ps → not fits ≡ true → false ≡ all
+  pub rows-broken : (fits : Bool) → 0 < left → fits ≡ grid-row-fits b ps → not fits ≡ true → false ≡ all
   rows-broken fits h e f = let no : fits ≡ false = not-true fits f in sym (first-row h ∙ rw (← e, no))
 
-  pub rows-next : (fits : Bool) (step : ℕ) (next : List ℕ) → 0 < left → fits ≡ row-fits b ps → not fits ≡ false → step ≡ stride b → next ≡ drop step ps
+  pub rows-next : (fits : Bool) (step : ℕ) (next : List ℕ) → 0 < left → fits ≡ grid-row-fits b ps → not fits ≡ false → step ≡ stride b → next ≡ drop step ps
       → marks-good (left - 1) b next ≡ all
   rows-next fits step next h e f g d = let yes : fits ≡ true = not-false fits f in sym (first-row h ∙ rw (← e, yes, ← g, ← d))
 

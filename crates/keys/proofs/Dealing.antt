@@ -13,12 +13,12 @@ use borrow.Author.Tests.{eqb-true, leb-false, not-false}
 use Rattle.xor.specs.Xor.{xors, zeros, bytes-good}
 use Rattle.xor.proofs.Laws.{Word, and-left, and-right}
 use Rattle.grid.specs.Grid.{Board, columns, grid-rows, row-long, board-refusal, bit, column, row-of, all-words, cell, share-from, share, arrays-good, each-long, marks-of, held-rows}
-use Rattle.grid.specs.Arrays.{marked, Half-is-marked}
+use Rattle.grid.specs.Arrays.{count-marked, Half-is-marked}
 use Rattle.grid.proofs.Facts.{board-accepted, Board-in, board-in, Facts, arrays-in, arrays-split, array-of, array-long, rows-in, words-in, grid-row-in, words-long}
 use Rattle.grid.proofs.Arrays.{half-is-marked}
 use Rattle.grid.proofs.LastWord.{all-words-long, all-words-are}
 use Rattle.keys.specs.Keys.{Lent, dealing, deal-refusal, mark-bytes, held-seeds, body-from, glued, rows-from, words-from, key}
-use Rattle.keys.specs.Keys.{packed-marks, rows-written, key-written, parts-share, share-by-parts}
+use Rattle.keys.specs.Keys.{packed-marks, grid-rows-written, key-written, parts-share, share-by-parts}
 use Rattle.keys.specs.Promise.{Rule-good, lent-good, dealt-parts}
 use Rattle.keys.proofs.Lists.{length-words, take-words, drop-words, each-cons, each-words, each-head, each-tail}
 use Rattle.keys.proofs.Marks.{marks-set, packed-is, take-marks, drop-marks, length-marks-of}
@@ -107,8 +107,8 @@ dealing-facts b f l rule t =
 
 -- A PLAYER'S MARKS: half of each grid row
 
-marks-marked : (i : ℕ) (cs : List ℕ) → marks-set (marks-of i cs) ≡ marked i cs
-unfolding marks-set marks-of marked
+marks-marked : (i : ℕ) (cs : List ℕ) → marks-set (marks-of i cs) ≡ count-marked i cs
+unfolding marks-set marks-of count-marked
 marks-marked i [] = refl
 marks-marked i (c ∷ cs) = ap (λ (n : ℕ). cond (bit c i) 1 0 + n) (marks-marked i cs)
 
@@ -219,8 +219,8 @@ held-glued (suc k) i (c ∷ cs) ss e = go (bit c i) (held-glued k i cs (drop 32 
 
 body-is : (k : ℕ) (b : Board) (i : ℕ) (cs ss : List ℕ) → length cs ≡ k * columns b →
     ((g : ℕ) → g < k → marks-set (take (columns b) (drop (g * columns b) (marks-of i cs))) ≡ columns b / 2) →
-    body-from k b i cs ss ≡ rows-written k b (marks-of i cs) (held-rows i cs (words-from (k * columns b) 32 ss))
-unfolding body-from rows-written
+    body-from k b i cs ss ≡ grid-rows-written k b (marks-of i cs) (held-rows i cs (words-from (k * columns b) 32 ss))
+unfolding body-from grid-rows-written
 body-is zero b i cs ss e h = refl
 body-is (suc k) b i cs ss e h =
     let J = columns b in

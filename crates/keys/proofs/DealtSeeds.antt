@@ -10,7 +10,7 @@ use borrow.Author.Tests.{eq-eqb, lt-ltb}
 use lib.ListN.{length, getD, take, drop, List·getD-append}
 use lib.Seq.{drop-cons, drop-drop, getD-drop, take-add, take-append-le}
 use Rattle.grid.specs.Grid.{Board, columns, grid-rows, bit, column, marks-of, held-rows}
-use Rattle.keys.specs.Keys.{Lent, key, mark-bytes, count-marks, stride, head-in, key-refusal, row-part, words-from, marks-in, marks-of-rows, seeds-of-rows, parts-of, parts-in}
+use Rattle.keys.specs.Keys.{Lent, key, mark-bytes, count-marks, stride, head-in, key-refusal, grid-row-part, words-from, marks-in, marks-of-grid-rows, seeds-of-grid-rows, parts-of, parts-in}
 use Rattle.keys.specs.Promise.{Rule-good, lent-good, dealt-parts, Reads-parts, Dealt-accepted}
 use Rattle.keys.specs.Held.{marked, seed-from, holds, held-seed, Held-as-dealt}
 use Rattle.keys.proofs.Lists.{length-words, words-at}
@@ -54,46 +54,46 @@ module _ (b : Board) (bs : List ℕ) (g : ℕ) (row : g < grid-rows b) where
   rows = omega arith
 
   -- the marks from the grid row on begin with its own
-  marks-here : drop (g * columns b) (marks-of-rows (grid-rows b) b bs)
-      ≡ marks-in (columns b) 0 (row-part b bs g) ++ marks-of-rows rest b (drop (stride b) (row-part b bs g))
-  unfolding marks-of-rows
+  marks-here : drop (g * columns b) (marks-of-grid-rows (grid-rows b) b bs)
+      ≡ marks-in (columns b) 0 (grid-row-part b bs g) ++ marks-of-grid-rows rest b (drop (stride b) (grid-row-part b bs g))
+  unfolding marks-of-grid-rows
   marks-here = rw rows (marks-from-row g (suc rest) b bs)
 
-  mark-at : (j : ℕ) → j < columns b → getD (marks-of-rows (grid-rows b) b bs) (g * columns b + j) false ≡ marked (row-part b bs g) j
+  mark-at : (j : ℕ) → j < columns b → getD (marks-of-grid-rows (grid-rows b) b bs) (g * columns b + j) false ≡ marked (grid-row-part b bs g) j
   unfolding marked
   mark-at j h =
-      let own = marks-in (columns b) 0 (row-part b bs g) in
-      let others = marks-of-rows rest b (drop (stride b) (row-part b bs g)) in
+      let own = marks-in (columns b) 0 (grid-row-part b bs g) in
+      let others = marks-of-grid-rows rest b (drop (stride b) (grid-row-part b bs g)) in
       let same : 0 + j ≡ j = omega arith in
-      sym (getD-drop (g * columns b) (marks-of-rows (grid-rows b) b bs) j false)
+      sym (getD-drop (g * columns b) (marks-of-grid-rows (grid-rows b) b bs) j false)
       ∙ (ap (λ (ms : List Bool). getD ms j false) marks-here
-      ∙ (List·getD-append own others false j (omega (arith, length-marks (columns b) 0 (row-part b bs g)))
-      ∙ rw same at (getD-marks (columns b) 0 j (row-part b bs g) h)))
+      ∙ (List·getD-append own others false j (omega (arith, length-marks (columns b) 0 (grid-row-part b bs g)))
+      ∙ rw same at (getD-marks (columns b) 0 j (grid-row-part b bs g) h)))
 
-  marks-before : (j : ℕ) → j < columns b → marks-set (take j (drop (g * columns b) (marks-of-rows (grid-rows b) b bs))) ≡ count-marks j 0 (row-part b bs g)
+  marks-before : (j : ℕ) → j < columns b → marks-set (take j (drop (g * columns b) (marks-of-grid-rows (grid-rows b) b bs))) ≡ count-marks j 0 (grid-row-part b bs g)
   marks-before j h =
-      let own = marks-in (columns b) 0 (row-part b bs g) in
-      let others = marks-of-rows rest b (drop (stride b) (row-part b bs g)) in
+      let own = marks-in (columns b) 0 (grid-row-part b bs g) in
+      let others = marks-of-grid-rows rest b (drop (stride b) (grid-row-part b bs g)) in
       rw (
         marks-here,
-        take-append-le j own others (omega (arith, length-marks (columns b) 0 (row-part b bs g))),
-        take-marks-in j (columns b) 0 (row-part b bs g) (omega arith),
-      ) (sym (count-marks-is j 0 (row-part b bs g)))
+        take-append-le j own others (omega (arith, length-marks (columns b) 0 (grid-row-part b bs g))),
+        take-marks-in j (columns b) 0 (grid-row-part b bs g) (omega arith),
+      ) (sym (count-marks-is j 0 (grid-row-part b bs g)))
 
   -- and so do the seeds
-  seeds-here : drop (g * (columns b / 2)) (seeds-of-rows (grid-rows b) b bs)
-      ≡ words-from (columns b / 2) 32 (drop (mark-bytes b) (row-part b bs g)) ++ seeds-of-rows rest b (drop (stride b) (row-part b bs g))
-  unfolding seeds-of-rows
+  seeds-here : drop (g * (columns b / 2)) (seeds-of-grid-rows (grid-rows b) b bs)
+      ≡ words-from (columns b / 2) 32 (drop (mark-bytes b) (grid-row-part b bs g)) ++ seeds-of-grid-rows rest b (drop (stride b) (grid-row-part b bs g))
+  unfolding seeds-of-grid-rows
   seeds-here = rw rows (seeds-from-row g (suc rest) b bs)
 
   seed-at : (n : ℕ) → n < columns b / 2
-      → getD (seeds-of-rows (grid-rows b) b bs) (g * (columns b / 2) + n) [] ≡ take 32 (drop (mark-bytes b + 32 * n) (row-part b bs g))
+      → getD (seeds-of-grid-rows (grid-rows b) b bs) (g * (columns b / 2) + n) [] ≡ take 32 (drop (mark-bytes b + 32 * n) (grid-row-part b bs g))
   seed-at n h =
-      let part = row-part b bs g in
+      let part = grid-row-part b bs g in
       let own = words-from (columns b / 2) 32 (drop (mark-bytes b) part) in
-      let others = seeds-of-rows rest b (drop (stride b) part) in
+      let others = seeds-of-grid-rows rest b (drop (stride b) part) in
       let from : mark-bytes b + n * 32 ≡ mark-bytes b + 32 * n = omega arith in
-      sym (getD-drop (g * (columns b / 2)) (seeds-of-rows (grid-rows b) b bs) n [])
+      sym (getD-drop (g * (columns b / 2)) (seeds-of-grid-rows (grid-rows b) b bs) n [])
       ∙ (ap (λ (ss : List (List ℕ)). getD ss n []) seeds-here
       ∙ (List·getD-append own others [] n (omega (arith, length-words (columns b / 2) 32 (drop (mark-bytes b) part)))
       ∙ (words-at (columns b / 2) 32 n (drop (mark-bytes b) part) h ∙ rw (drop-drop (n * 32) (mark-bytes b) part, from))))
@@ -106,7 +106,7 @@ module _ (b : Board) (f : List ℕ → List ℕ) (l : Lent) (i g j : ℕ) (lent 
     bs = head-in (key b f l i) .rest
 
     part : List ℕ
-    part = row-part b bs g
+    part = grid-row-part b bs g
 
     place : ℕ
     place = g * columns b + j
@@ -145,8 +145,8 @@ module _ (b : Board) (f : List ℕ → List ℕ) (l : Lent) (i g j : ℕ) (lent 
         let J = columns b in
         let marks = marks-of i (l .arrays) in
         let t = lent-in b l lent in
-        let marks-same : marks-of-rows (grid-rows b) b bs ≡ marks = ap (λ q. q .marks) parts-are in
-        let seeds-same : seeds-of-rows (grid-rows b) b bs ≡ held-rows i (l .arrays) seeds = ap (λ q. q .seeds) parts-are in
+        let marks-same : marks-of-grid-rows (grid-rows b) b bs ≡ marks = ap (λ q. q .marks) parts-are in
+        let seeds-same : seeds-of-grid-rows (grid-rows b) b bs ≡ held-rows i (l .arrays) seeds = ap (λ q. q .seeds) parts-are in
         let before : marks-set (take j (drop (g * J) marks)) ≡ n = (rw marks-same at (marks-before b bs g row j column-in)) in
         let rows-before : marks-set (take (g * J) marks) ≡ g * (J / 2) = marks-total g J (J / 2) marks (λ k p. half-marked b l i t h k (omega arith)) in
         let index : marks-set (take place marks) ≡ g * (J / 2) + n =

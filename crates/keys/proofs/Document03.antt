@@ -9,7 +9,7 @@ use native.Mathlib.Omega.{arith}
 use lib.ListN.{getD, take, drop}
 use Rattle.xor.specs.Xor.{xors, zeros}
 use Rattle.grid.specs.Grid.{Board, columns, grid-rows, bit, cell}
-use Rattle.keys.specs.Keys.{mark-bytes, row-part, opened-from, opened-part, opened, head-in, key}
+use Rattle.keys.specs.Keys.{mark-bytes, grid-row-part, opened-from, opened-part, opened, head-in, key}
 use Rattle.keys.specs.Promise as Promise
 use Rattle.keys.specs.Document03 as Document03
 use Rattle.keys.proofs.Opening.{word-behind-is}
@@ -18,11 +18,11 @@ use Rattle.keys.proofs.Promise as Proved
 -- OPENING
 
 same-from : (k j n : ℕ) (b : Board) (f : List ℕ → List ℕ) (bs : List ℕ) (g c : ℕ) (xs : List ℕ) → g ≤ grid-rows b →
-    Document03.opened-from k j n b f bs (row-part b bs g) c xs ≡ opened-from k j n b f (row-part b bs g) g c xs
+    Document03.opened-from k j n b f bs (grid-row-part b bs g) c xs ≡ opened-from k j n b f (grid-row-part b bs g) g c xs
 unfolding Document03.opened-from opened-from Document03.word-in
 same-from zero j n b f bs g c xs h = refl
 same-from (suc k) j n b f bs g c xs h =
-    let part = row-part b bs g in
+    let part = grid-row-part b bs g in
     let seed = take 32 (drop (mark-bytes b + 32 * n) part) in
     rw (word-behind-is b bs g j h)
     (ap₂ (cond (bit (getD part (j / 8) 0) (j % 8)))

@@ -14,7 +14,7 @@ use Rattle.xor.specs.Xor.{bytes-good}
 use Rattle.xor.proofs.Laws.{and-left, and-right}
 use Rattle.grid.specs.Grid.{Board, columns, grid-rows, bit}
 use Rattle.grid.proofs.Facts.{columns-pos}
-use Rattle.keys.specs.Keys.{header, mark-bytes, count-marks, stride, head-in, key-refusal, row-part}
+use Rattle.keys.specs.Keys.{header, mark-bytes, count-marks, stride, head-in, key-refusal, grid-row-part}
 use Rattle.keys.specs.Held.{marked, seed-from, holds, held-seed, held-seed-place, Place-holds}
 use Rattle.keys.proofs.Numbers.{header-again}
 use Rattle.keys.proofs.Accepted.{Key-in, key-in}
@@ -45,9 +45,9 @@ count-before ps j n h m =
 
 -- behind the header, in the key itself
 pub row-place : (ks : List ℕ) (g : ℕ) → bytes-good ks ≡ true → Key-in ks
-    → row-part (head-in ks .board) (head-in ks .rest) g
+    → grid-row-part (head-in ks .board) (head-in ks .rest) g
     ≡ drop (length (header (head-in ks .board) (head-in ks .player)) + g * stride (head-in ks .board)) ks
-unfolding row-part
+unfolding grid-row-part
 row-place ks g good k =
     let b = head-in ks .board in
     let front = header b (head-in ks .player) in
@@ -59,13 +59,13 @@ record Holds (ks : List ℕ) (g j : ℕ) : Type 0 where
   pub none : key-refusal ks ≡ 0
   pub row : g < grid-rows (head-in ks .board)
   pub column : j < columns (head-in ks .board)
-  pub mark : marked (row-part (head-in ks .board) (head-in ks .rest) g) j ≡ true
+  pub mark : marked (grid-row-part (head-in ks .board) (head-in ks .rest) g) j ≡ true
 
 holds-in : (ks : List ℕ) (g j : ℕ) → holds ks g j ≡ true → Holds ks g j
 unfolding holds
 holds-in ks g j h =
     let b = head-in ks .board in
-    let m = marked (row-part b (head-in ks .rest) g) j in
+    let m = marked (grid-row-part b (head-in ks .rest) g) j in
     let inner = ltb j (columns b) && m in
     let behind = and-right (eqb (key-refusal ks) 0) (ltb g (grid-rows b) && inner) h in
     let last = and-right (ltb g (grid-rows b)) inner behind in
@@ -83,11 +83,11 @@ stride-is b = refl
 -- a held seed ends inside its grid row, and so inside the key
 seed-inside : (ks : List ℕ) (g j : ℕ) → Holds ks g j
     → length (header (head-in ks .board) (head-in ks .player)) + g * stride (head-in ks .board)
-    + seed-from (head-in ks .board) (row-part (head-in ks .board) (head-in ks .rest) g) j + 32 ≤ length ks
+    + seed-from (head-in ks .board) (grid-row-part (head-in ks .board) (head-in ks .rest) g) j + 32 ≤ length ks
 unfolding seed-from
 seed-inside ks g j s =
     let b = head-in ks .board in
-    let part = row-part b (head-in ks .rest) g in
+    let part = grid-row-part b (head-in ks .rest) g in
     let k = key-in ks (s .none) in
     let half : count-marks (columns b) 0 part ≡ columns b / 2 = tests-at (grid-rows b) g b (head-in ks .rest) (s .row) (k .marks) in
     let before : suc (count-marks j 0 part) ≤ count-marks (columns b) 0 part = count-before part j (columns b) (s .column) (s .mark) in
@@ -127,7 +127,7 @@ module _ (ks : List ℕ) (g j : ℕ) where
       let s = holds-in ks g j (place-held z) in
       let b = head-in ks .board in
       let from = length (header b (head-in ks .player)) + g * stride b in
-      let seed = seed-from b (row-part b (head-in ks .rest) g) j in
+      let seed = seed-from b (grid-row-part b (head-in ks .rest) g) j in
       rw (place-held z, ← drop-drop seed from ks, ← row-place ks g good (key-in ks (s .none)))
 
   -- what is held has 32 bytes

@@ -13,7 +13,7 @@ use Rattle.xor.proofs.Laws.{Word, word-xors, word-zeros}
 use Rattle.grid.specs.Grid.{Board, columns, grid-rows, row-long, bit, cell, each-long}
 use Rattle.grid.proofs.Facts.{Board-in, grid-row-in, cell-in, each-word}
 use Rattle.grid.proofs.Cells.{cell-word}
-use Rattle.keys.specs.Keys.{mark-bytes, stride, count-marks, marks-good, words-from, row-part, word-behind, opened-from, opened-part, Parts, marks-in, marks-of-rows, seeds-of-rows, parts-of, parts-share, share-by-parts, table-from}
+use Rattle.keys.specs.Keys.{mark-bytes, stride, count-marks, marks-good, words-from, grid-row-part, word-behind, opened-from, opened-part, Parts, marks-in, marks-of-grid-rows, seeds-of-grid-rows, parts-of, parts-share, share-by-parts, table-from}
 use Rattle.keys.specs.Promise.{Rule-good}
 use Rattle.keys.proofs.Lists.{length-words, words-at, each-head, each-tail, each-drop, in-a-row, row-word, row-at}
 use Rattle.keys.proofs.Marks.{marks-set, length-marks}
@@ -102,34 +102,34 @@ by-rows-from (suc g) k s n F bs e =
     rw (more, next, further, ← drop-drop (g * n) n (F bs ++ others), drop-at (F bs) others n (e bs), ← drop-drop (g * s) s bs)
     (by-rows-from g k s n F (drop s bs) e)
 
-marks-by-rows : (k : ℕ) (b : Board) (bs : List ℕ) → marks-of-rows k b bs ≡ by-rows k (stride b) (marks-in (columns b) 0) bs
-unfolding marks-of-rows by-rows
+marks-by-rows : (k : ℕ) (b : Board) (bs : List ℕ) → marks-of-grid-rows k b bs ≡ by-rows k (stride b) (marks-in (columns b) 0) bs
+unfolding marks-of-grid-rows by-rows
 marks-by-rows zero b bs = refl
 marks-by-rows (suc k) b bs = ap (λ (ms : List Bool). marks-in (columns b) 0 bs ++ ms) (marks-by-rows k b (drop (stride b) bs))
 
-abbrev row-seeds : Board → List ℕ → List (List ℕ)
-row-seeds b bs = words-from (columns b / 2) 32 (drop (mark-bytes b) bs)
+abbrev grid-row-seeds : Board → List ℕ → List (List ℕ)
+grid-row-seeds b bs = words-from (columns b / 2) 32 (drop (mark-bytes b) bs)
 
-seeds-by-rows : (k : ℕ) (b : Board) (bs : List ℕ) → seeds-of-rows k b bs ≡ by-rows k (stride b) (row-seeds b) bs
-unfolding seeds-of-rows by-rows
+seeds-by-rows : (k : ℕ) (b : Board) (bs : List ℕ) → seeds-of-grid-rows k b bs ≡ by-rows k (stride b) (grid-row-seeds b) bs
+unfolding seeds-of-grid-rows by-rows
 seeds-by-rows zero b bs = refl
-seeds-by-rows (suc k) b bs = ap (λ (ss : List (List ℕ)). row-seeds b bs ++ ss) (seeds-by-rows k b (drop (stride b) bs))
+seeds-by-rows (suc k) b bs = ap (λ (ss : List (List ℕ)). grid-row-seeds b bs ++ ss) (seeds-by-rows k b (drop (stride b) bs))
 
-pub marks-from-row : (g k : ℕ) (b : Board) (bs : List ℕ) → drop (g * columns b) (marks-of-rows (g + k) b bs) ≡ marks-of-rows k b (row-part b bs g)
-unfolding row-part
+pub marks-from-row : (g k : ℕ) (b : Board) (bs : List ℕ) → drop (g * columns b) (marks-of-grid-rows (g + k) b bs) ≡ marks-of-grid-rows k b (grid-row-part b bs g)
+unfolding grid-row-part
 marks-from-row g k b bs =
     rw (marks-by-rows (g + k) b bs, marks-by-rows k b (drop (g * stride b) bs))
     (by-rows-from g k (stride b) (columns b) (marks-in (columns b) 0) bs (length-marks (columns b) 0))
 
-pub seeds-from-row : (g k : ℕ) (b : Board) (bs : List ℕ) → drop (g * (columns b / 2)) (seeds-of-rows (g + k) b bs) ≡ seeds-of-rows k b (row-part b bs g)
-unfolding row-part
+pub seeds-from-row : (g k : ℕ) (b : Board) (bs : List ℕ) → drop (g * (columns b / 2)) (seeds-of-grid-rows (g + k) b bs) ≡ seeds-of-grid-rows k b (grid-row-part b bs g)
+unfolding grid-row-part
 seeds-from-row g k b bs =
     rw (seeds-by-rows (g + k) b bs, seeds-by-rows k b (drop (g * stride b) bs))
-    (by-rows-from g k (stride b) (columns b / 2) (row-seeds b) bs (λ xs. length-words (columns b / 2) 32 (drop (mark-bytes b) xs)))
+    (by-rows-from g k (stride b) (columns b / 2) (grid-row-seeds b) bs (λ xs. length-words (columns b / 2) 32 (drop (mark-bytes b) xs)))
 
 -- each grid row's test
-pub tests-at : (k g : ℕ) (b : Board) (bs : List ℕ) → g < k → marks-good k b bs ≡ true → count-marks (columns b) 0 (row-part b bs g) ≡ columns b / 2
-unfolding row-part
+pub tests-at : (k g : ℕ) (b : Board) (bs : List ℕ) → g < k → marks-good k b bs ≡ true → count-marks (columns b) 0 (grid-row-part b bs g) ≡ columns b / 2
+unfolding grid-row-part
 tests-at zero g b bs h t = let none : ⊥ = omega arith in absurd none
 tests-at (suc k) zero b bs h t = let none : zero * stride b ≡ zero = omega arith in rw none (row-tests k b bs t .0)
 tests-at (suc k) (suc g) b bs h t =
@@ -143,8 +143,8 @@ rows-behind g n s h =
     let sum : g * s + (n - g) * s ≡ (g + (n - g)) * s = omega arith in sum ∙ ap (λ (m : ℕ). m * s) all
 
 pub word-behind-is : (b : Board) (bs : List ℕ) (g j : ℕ) → g ≤ grid-rows b →
-    word-behind b (row-part b bs g) g j ≡ take (row-long b) (drop (grid-rows b * stride b + j * row-long b) bs)
-unfolding word-behind row-part
+    word-behind b (grid-row-part b bs g) g j ≡ take (row-long b) (drop (grid-rows b * stride b + j * row-long b) bs)
+unfolding word-behind grid-row-part
 word-behind-is b bs g j h =
     let place : g * stride b + ((grid-rows b - g) * stride b + j * row-long b) ≡ grid-rows b * stride b + j * row-long b =
     omega (arith, rows-behind g (grid-rows b) (stride b) h) in
@@ -180,21 +180,21 @@ opened-share (suc k) j n (suc m) b f ps more others ws g c xs h w =
 
 -- a square opened from the part that begins at its grid row is the share by the parts of the whole body
 pub opened-part-is : (b : Board) (f : List ℕ → List ℕ) (bs : List ℕ) (a : ℕ) → Board-in b → Body-in b bs → a < b .n →
-    opened-part b f (row-part b bs (a / b .wide)) a ≡ share-by-parts b f (parts-of b bs) a
-unfolding opened-part share-by-parts parts-of marks-of-rows seeds-of-rows
+    opened-part b f (grid-row-part b bs (a / b .wide)) a ≡ share-by-parts b f (parts-of b bs) a
+unfolding opened-part share-by-parts parts-of marks-of-grid-rows seeds-of-grid-rows
 opened-part-is b f bs a board body h =
     let g = a / b .wide in
     let inside = grid-row-in b board a h in
-    let part = row-part b bs g in
+    let part = grid-row-part b bs g in
     let left = grid-rows b - suc g in
     let rows : grid-rows b ≡ g + suc left = omega arith in
-    let more = marks-of-rows left b (drop (stride b) part) in
-    let others = seeds-of-rows left b (drop (stride b) part) in
+    let more = marks-of-grid-rows left b (drop (stride b) part) in
+    let others = seeds-of-grid-rows left b (drop (stride b) part) in
     let words = words-from (columns b) (row-long b) (drop (grid-rows b * stride b) bs) in
-    let marks : drop (g * columns b) (marks-of-rows (grid-rows b) b bs) ≡ marks-in (columns b) 0 part ++ more =
-    ap (λ (n : ℕ). drop (g * columns b) (marks-of-rows n b bs)) rows ∙ marks-from-row g (suc left) b bs in
-    let seeds : drop (g * (columns b / 2)) (seeds-of-rows (grid-rows b) b bs) ≡ words-from (columns b / 2) 32 (drop (mark-bytes b) part) ++ others =
-    ap (λ (n : ℕ). drop (g * (columns b / 2)) (seeds-of-rows n b bs)) rows ∙ seeds-from-row g (suc left) b bs in
+    let marks : drop (g * columns b) (marks-of-grid-rows (grid-rows b) b bs) ≡ marks-in (columns b) 0 part ++ more =
+    ap (λ (n : ℕ). drop (g * columns b) (marks-of-grid-rows n b bs)) rows ∙ marks-from-row g (suc left) b bs in
+    let seeds : drop (g * (columns b / 2)) (seeds-of-grid-rows (grid-rows b) b bs) ≡ words-from (columns b / 2) 32 (drop (mark-bytes b) part) ++ others =
+    ap (λ (n : ℕ). drop (g * (columns b / 2)) (seeds-of-grid-rows n b bs)) rows ∙ seeds-from-row g (suc left) b bs in
     let first : mark-bytes b ≡ mark-bytes b + 32 * 0 = omega arith in
     rw (marks, seeds)
     (sym (ap (λ (n : ℕ). parts-share (columns b) 0 b f (marks-in (columns b) 0 part ++ more) (words-from (columns b / 2) 32 (drop n part) ++ others) words (a % b .wide) (zeros (b .w))) first

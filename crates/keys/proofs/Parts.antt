@@ -13,7 +13,7 @@ use Rattle.xor.specs.Xor.{bytes-good}
 use Rattle.xor.proofs.Laws.{Word, and-left, and-right, and-both, good-append, good-drop}
 use Rattle.grid.specs.Grid.{Board, columns, each-long}
 use Rattle.grid.proofs.Facts.{Board-in, columns-half}
-use Rattle.keys.specs.Keys.{mark-bytes, count-marks, spare-from, stride, marks-good, glued, words-from, marks-in, marks-of-rows, seeds-of-rows, packed-marks, rows-written}
+use Rattle.keys.specs.Keys.{mark-bytes, count-marks, spare-from, stride, marks-good, glued, words-from, marks-in, marks-of-grid-rows, seeds-of-grid-rows, packed-marks, grid-rows-written}
 use Rattle.keys.proofs.Lists.{length-words, glue-words, each-append, each-drop, each-take, each-words, length-glued, good-glued, words-glue}
 use Rattle.keys.proofs.Marks.{marks-set, count-marks-is, length-marks, packed-marks-back, marks-read-back, spare-read-back, length-packed, good-packed}
 
@@ -79,16 +79,16 @@ module _ (b : Board) (f : Board-in b) (k : ℕ) (ms : List Bool) (ss : List (Lis
   abbrev row-marks : List ℕ
   row-marks = packed-marks (mark-bytes b) (take (columns b) ms)
 
-  abbrev row-seeds : List ℕ
-  row-seeds = glued (take (columns b / 2) ss)
+  abbrev grid-row-seeds : List ℕ
+  grid-row-seeds = glued (take (columns b / 2) ss)
 
   abbrev later : List ℕ
-  later = rows-written k b (drop (columns b) ms) (drop (columns b / 2) ss) ++ rest
+  later = grid-rows-written k b (drop (columns b) ms) (drop (columns b / 2) ss) ++ rest
 
-  row-first : rows-written (suc k) b ms ss ++ rest ≡ row-marks ++ row-seeds ++ later
-  unfolding rows-written
+  row-first : grid-rows-written (suc k) b ms ss ++ rest ≡ row-marks ++ grid-row-seeds ++ later
+  unfolding grid-rows-written
   row-first =
-      append-assoc (row-marks ++ row-seeds) (rows-written k b (drop (columns b) ms) (drop (columns b / 2) ss)) rest
+      append-assoc (row-marks ++ grid-row-seeds) (grid-rows-written k b (drop (columns b) ms) (drop (columns b / 2) ss)) rest
 
   first-marks-long : length (take (columns b) ms) ≡ columns b
   first-marks-long = length-take-le (columns b) ms (omega (arith, r .marks-long))
@@ -96,48 +96,48 @@ module _ (b : Board) (f : Board-in b) (k : ℕ) (ms : List Bool) (ss : List (Lis
   first-seeds-long : length (take (columns b / 2) ss) ≡ columns b / 2
   first-seeds-long = length-take-le (columns b / 2) ss (omega (arith, r .seeds-long))
 
-  row-seeds-long : length row-seeds ≡ columns b / 2 * 32
-  row-seeds-long =
+  grid-row-seeds-long : length grid-row-seeds ≡ columns b / 2 * 32
+  grid-row-seeds-long =
       length-glued 32 (take (columns b / 2) ss) (each-take 32 (columns b / 2) ss (r .seeds-good)) ∙ ap (λ (n : ℕ). n * 32) first-seeds-long
 
-  row-long-is : length (row-marks ++ row-seeds) ≡ stride b
+  row-long-is : length (row-marks ++ grid-row-seeds) ≡ stride b
   row-long-is =
-      length-append row-marks row-seeds ∙ omega (arith, length-packed (mark-bytes b) (take (columns b) ms), row-seeds-long, stride-is b f)
+      length-append row-marks grid-row-seeds ∙ omega (arith, length-packed (mark-bytes b) (take (columns b) ms), grid-row-seeds-long, stride-is b f)
 
-  later-read : drop (stride b) (row-marks ++ row-seeds ++ later) ≡ later
-  later-read = drop-at (row-marks ++ row-seeds) later (stride b) row-long-is
+  later-read : drop (stride b) (row-marks ++ grid-row-seeds ++ later) ≡ later
+  later-read = drop-at (row-marks ++ grid-row-seeds) later (stride b) row-long-is
 
-  first-marks-read : marks-in (columns b) 0 (row-marks ++ row-seeds ++ later) ≡ take (columns b) ms
+  first-marks-read : marks-in (columns b) 0 (row-marks ++ grid-row-seeds ++ later) ≡ take (columns b) ms
   first-marks-read =
-      rw (append-assoc row-marks row-seeds later)
-      (marks-read-back (mark-bytes b) (columns b) (take (columns b) ms) (row-seeds ++ later) first-marks-long (marks-fit b))
+      rw (append-assoc row-marks grid-row-seeds later)
+      (marks-read-back (mark-bytes b) (columns b) (take (columns b) ms) (grid-row-seeds ++ later) first-marks-long (marks-fit b))
 
-  first-seeds-read : words-from (columns b / 2) 32 (drop (mark-bytes b) (row-marks ++ row-seeds ++ later)) ≡ take (columns b / 2) ss
+  first-seeds-read : words-from (columns b / 2) 32 (drop (mark-bytes b) (row-marks ++ grid-row-seeds ++ later)) ≡ take (columns b / 2) ss
   first-seeds-read =
       rw (
-        append-assoc row-marks row-seeds later,
-        drop-at row-marks (row-seeds ++ later) (mark-bytes b) (length-packed (mark-bytes b) (take (columns b) ms)),
+        append-assoc row-marks grid-row-seeds later,
+        drop-at row-marks (grid-row-seeds ++ later) (mark-bytes b) (length-packed (mark-bytes b) (take (columns b) ms)),
       )
       (words-glue (columns b / 2) 32 (take (columns b / 2) ss) later first-seeds-long (each-take 32 (columns b / 2) ss (r .seeds-good)))
 
-  first-row-good : (eqb (count-marks (columns b) 0 (row-marks ++ row-seeds ++ later)) (columns b / 2)
-      && spare-from (8 * mark-bytes b - columns b) (columns b) (row-marks ++ row-seeds ++ later)) ≡ true
+  first-row-good : (eqb (count-marks (columns b) 0 (row-marks ++ grid-row-seeds ++ later)) (columns b / 2)
+      && spare-from (8 * mark-bytes b - columns b) (columns b) (row-marks ++ grid-row-seeds ++ later)) ≡ true
   first-row-good =
-      let whole = row-marks ++ row-seeds ++ later in
+      let whole = row-marks ++ grid-row-seeds ++ later in
       let counted : count-marks (columns b) 0 whole ≡ columns b / 2 =
       count-marks-is (columns b) 0 whole ∙ ap marks-set first-marks-read ∙ first-half k b ms ss r in
       and-both (eqb (count-marks (columns b) 0 whole) (columns b / 2)) (spare-from (8 * mark-bytes b - columns b) (columns b) whole)
       (eq-eqb (count-marks (columns b) 0 whole) (columns b / 2) counted)
-      (rw (append-assoc row-marks row-seeds later)
-      (spare-read-back (mark-bytes b) (columns b) (take (columns b) ms) (row-seeds ++ later) first-marks-long (marks-fit b)))
+      (rw (append-assoc row-marks grid-row-seeds later)
+      (spare-read-back (mark-bytes b) (columns b) (take (columns b) ms) (grid-row-seeds ++ later) first-marks-long (marks-fit b)))
 
 nothing {ℓ} : {A : Type ℓ} (xs : List A) → length xs ≡ 0 → [] ≡ xs
 nothing [] e = refl
 nothing (x ∷ xs) e = let none : ⊥ = omega arith in absurd none
 
 pub marks-back : (k : ℕ) (b : Board) (ms : List Bool) (ss : List (List ℕ)) (rest : List ℕ) → Board-in b → Rows-good k b ms ss →
-    marks-of-rows k b (rows-written k b ms ss ++ rest) ≡ ms
-unfolding marks-of-rows
+    marks-of-grid-rows k b (grid-rows-written k b ms ss ++ rest) ≡ ms
+unfolding marks-of-grid-rows
 marks-back zero b ms ss rest f r = nothing ms (omega (arith, r .marks-long))
 marks-back (suc k) b ms ss rest f r =
     rw (
@@ -149,8 +149,8 @@ marks-back (suc k) b ms ss rest f r =
     (take-append-drop (columns b) ms)
 
 pub seeds-back : (k : ℕ) (b : Board) (ms : List Bool) (ss : List (List ℕ)) (rest : List ℕ) → Board-in b → Rows-good k b ms ss →
-    seeds-of-rows k b (rows-written k b ms ss ++ rest) ≡ ss
-unfolding seeds-of-rows
+    seeds-of-grid-rows k b (grid-rows-written k b ms ss ++ rest) ≡ ss
+unfolding seeds-of-grid-rows
 seeds-back zero b ms ss rest f r = nothing ss (omega (arith, r .seeds-long))
 seeds-back (suc k) b ms ss rest f r =
     rw (
@@ -162,7 +162,7 @@ seeds-back (suc k) b ms ss rest f r =
     (take-append-drop (columns b / 2) ss)
 
 pub marks-good-back : (k : ℕ) (b : Board) (ms : List Bool) (ss : List (List ℕ)) (rest : List ℕ) → Board-in b → Rows-good k b ms ss →
-    marks-good k b (rows-written k b ms ss ++ rest) ≡ true
+    marks-good k b (grid-rows-written k b ms ss ++ rest) ≡ true
 unfolding marks-good
 marks-good-back zero b ms ss rest f r = refl
 marks-good-back (suc k) b ms ss rest f r =
@@ -171,12 +171,12 @@ marks-good-back (suc k) b ms ss rest f r =
 
 -- k grid rows have k strides of bytes
 pub rows-word : (k : ℕ) (b : Board) (ms : List Bool) (ss : List (List ℕ)) → Board-in b → Rows-good k b ms ss →
-    Word (k * stride b) (rows-written k b ms ss)
-unfolding rows-written bytes-good
+    Word (k * stride b) (grid-rows-written k b ms ss)
+unfolding grid-rows-written bytes-good
 rows-word zero b ms ss f r = record { long = omega arith; good = refl }
 rows-word (suc k) b ms ss f r =
     let first = packed-marks (mark-bytes b) (take (columns b) ms) ++ glued (take (columns b / 2) ss) in
-    let others = rows-written k b (drop (columns b) ms) (drop (columns b / 2) ss) in
+    let others = grid-rows-written k b (drop (columns b) ms) (drop (columns b / 2) ss) in
     let ih = rows-word k b (drop (columns b) ms) (drop (columns b / 2) ss) f (rows-tail k b ms ss r) in
     record {
       long = length-append first others ∙ omega (arith, row-long-is b f k ms ss r [], ih .long);
@@ -201,31 +201,31 @@ row-tests k b bs h =
 
 -- the grid rows of an accepted key are good
 pub rows-read-good : (k : ℕ) (b : Board) (bs : List ℕ) → Board-in b → k * stride b ≤ length bs → bytes-good bs ≡ true → marks-good k b bs ≡ true →
-    Rows-good k b (marks-of-rows k b bs) (seeds-of-rows k b bs)
-unfolding marks-of-rows seeds-of-rows each-long
+    Rows-good k b (marks-of-grid-rows k b bs) (seeds-of-grid-rows k b bs)
+unfolding marks-of-grid-rows seeds-of-grid-rows each-long
 rows-read-good zero b bs f h g t =
     record { marks-long = omega arith; half = λ g h. let none : ⊥ = omega arith in absurd none; seeds-long = omega arith; seeds-good = refl }
 rows-read-good (suc k) b bs f h g t =
     let tests = row-tests k b bs t in
     let size = stride-is b f in
-    rows-cons k b (marks-in (columns b) 0 bs) (marks-of-rows k b (drop (stride b) bs))
-    (words-from (columns b / 2) 32 (drop (mark-bytes b) bs)) (seeds-of-rows k b (drop (stride b) bs))
+    rows-cons k b (marks-in (columns b) 0 bs) (marks-of-grid-rows k b (drop (stride b) bs))
+    (words-from (columns b / 2) 32 (drop (mark-bytes b) bs)) (seeds-of-grid-rows k b (drop (stride b) bs))
     (length-marks (columns b) 0 bs) (sym (count-marks-is (columns b) 0 bs) ∙ tests .0) (length-words (columns b / 2) 32 (drop (mark-bytes b) bs))
     (each-words (columns b / 2) 32 (drop (mark-bytes b) bs) (rw length-drop (omega arith)) (good-drop (mark-bytes b) bs g))
     (rows-read-good k b (drop (stride b) bs) f (rw length-drop (omega arith)) (good-drop (stride b) bs g) (tests .2))
 
 -- and write the same bytes again
 pub rows-again : (k : ℕ) (b : Board) (bs : List ℕ) → Board-in b → k * stride b ≤ length bs → bytes-good bs ≡ true → marks-good k b bs ≡ true →
-    rows-written k b (marks-of-rows k b bs) (seeds-of-rows k b bs) ≡ take (k * stride b) bs
-unfolding marks-of-rows seeds-of-rows rows-written
+    grid-rows-written k b (marks-of-grid-rows k b bs) (seeds-of-grid-rows k b bs) ≡ take (k * stride b) bs
+unfolding marks-of-grid-rows seeds-of-grid-rows grid-rows-written
 rows-again zero b bs f h g t = let none : zero * stride b ≡ zero = omega arith in rw none
 rows-again (suc k) b bs f h g t =
     let tests = row-tests k b bs t in
     let size = stride-is b f in
     let marks = marks-in (columns b) 0 bs in
     let seeds = words-from (columns b / 2) 32 (drop (mark-bytes b) bs) in
-    let marks-later = marks-of-rows k b (drop (stride b) bs) in
-    let seeds-later = seeds-of-rows k b (drop (stride b) bs) in
+    let marks-later = marks-of-grid-rows k b (drop (stride b) bs) in
+    let seeds-later = seeds-of-grid-rows k b (drop (stride b) bs) in
     let marks-long = length-marks (columns b) 0 bs in
     let seeds-long = length-words (columns b / 2) 32 (drop (mark-bytes b) bs) in
     let next : suc k * stride b ≡ stride b + k * stride b = omega arith in

@@ -10,7 +10,7 @@ use lib.ListN.{length, getD, take, drop}
 use Rattle.xor.specs.Xor.{xors, zeros, bytes-good}
 use Rattle.grid.specs.Grid.{Board, columns, grid-rows, row-long, bit, cell, share, joined-from}
 use Rattle.keys.specs.Keys
-use Rattle.keys.specs.Keys.{mark-bytes, stride, row-part, head-in, Lent, dealing, key, key-long, key-refusal, table, parts-in}
+use Rattle.keys.specs.Keys.{mark-bytes, stride, grid-row-part, head-in, Lent, dealing, key, key-long, key-refusal, table, parts-in}
 use Rattle.keys.specs.Promise.{lent-good, entry, dealt-parts}
 
 -- OPENING from a key's bytes: the part that begins at a grid row, and the words behind all of them
@@ -28,7 +28,7 @@ unfoldable pub opened : (rule : List ℕ → List ℕ) → (key : List ℕ) → 
 opened f ks a =
     let h = head-in ks in
     let b = h .board in
-    opened-from (columns b) 0 0 b f (h .rest) (row-part b (h .rest) (a / b .wide)) (a % b .wide) (zeros (b .w))
+    opened-from (columns b) 0 0 b f (h .rest) (grid-row-part b (h .rest) (a / b .wide)) (a % b .wide) (zeros (b .w))
 
 -- THE OPENING OF KEYS.ANTT IS THIS ONE, for every list of numbers and every rule, at every square
 unfoldable pub Same-opening : Type 0

@@ -8,7 +8,7 @@ use lib.Dec.{ltb, eqb}
 use lib.ListN.{length, getD, take, drop}
 use Rattle.xor.specs.Xor.{bytes-good}
 use Rattle.grid.specs.Grid.{Board, columns, grid-rows, bit, column}
-use Rattle.keys.specs.Keys.{Lent, key, header, head-in, mark-bytes, count-marks, spare-from, stride, key-refusal, row-part}
+use Rattle.keys.specs.Keys.{Lent, key, header, head-in, mark-bytes, count-marks, spare-from, stride, key-refusal, grid-row-part}
 use Rattle.keys.specs.Promise.{Rule-good, lent-good}
 
 -- "column j is bit j mod 8 of byte j div 8"
@@ -16,8 +16,8 @@ unfoldable pub marked : (part : List ℕ) → (column : ℕ) → Bool
 marked ps j = bit (getD ps (j / 8) 0) (j % 8)
 
 -- "A player marks exactly J/2 columns", and "spare bits zero": what 13 asks of one grid row
-unfoldable pub row-fits : Board → (part : List ℕ) → Bool
-row-fits b ps =
+unfoldable pub grid-row-fits : Board → (part : List ℕ) → Bool
+grid-row-fits b ps =
     eqb (count-marks (columns b) 0 ps) (columns b / 2)
     && spare-from (8 * mark-bytes b - columns b) (columns b) ps
 
@@ -30,21 +30,21 @@ unfoldable pub holds : (key : List ℕ) → (g j : ℕ) → Bool
 holds ks g j =
     let h = head-in ks in
     let b = h .board in
-    eqb (key-refusal ks) 0 && (ltb g (grid-rows b) && (ltb j (columns b) && marked (row-part b (h .rest) g) j))
+    eqb (key-refusal ks) 0 && (ltb g (grid-rows b) && (ltb j (columns b) && marked (grid-row-part b (h .rest) g) j))
 
 -- "the 32 bytes of the caller's key itself for a grid row and column"
 unfoldable pub held-seed : (key : List ℕ) → (g j : ℕ) → List ℕ
 held-seed ks g j =
     let h = head-in ks in
     let b = h .board in
-    let part = row-part b (h .rest) g in cond (holds ks g j) (take 32 (drop (seed-from b part j) part)) []
+    let part = grid-row-part b (h .rest) g in cond (holds ks g j) (take 32 (drop (seed-from b part j) part)) []
 
 -- where these bytes begin in the key, or 0
 unfoldable pub held-seed-place : (key : List ℕ) → (g j : ℕ) → ℕ
 held-seed-place ks g j =
     let h = head-in ks in
     let b = h .board in
-    cond (holds ks g j) (length (header b (h .player)) + g * stride b + seed-from b (row-part b (h .rest) g) j) 0
+    cond (holds ks g j) (length (header b (h .player)) + g * stride b + seed-from b (grid-row-part b (h .rest) g) j) 0
 
 -- what stands at a place that is told for a held seed: where it is not 0, the 32 bytes of the held seed, inside the key; where it is 0, none is held
 pub record Held-at (key : List ℕ) (g j place : ℕ) : Type 0 where

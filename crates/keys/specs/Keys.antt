@@ -201,8 +201,8 @@ key-refusal bs =
 -- OPENING A SQUARE ALONE
 
 -- "the part of the key that begins at its grid row", of the bytes behind the header
-unfoldable pub row-part : Board → (body : List ℕ) → (g : ℕ) → List ℕ
-row-part b bs g = drop (g * stride b) bs
+unfoldable pub grid-row-part : Board → (body : List ℕ) → (g : ℕ) → List ℕ
+grid-row-part b bs g = drop (g * stride b) bs
 
 -- the word of column j, as it stands behind the part that begins at grid row g: past that grid row and all after it
 unfoldable pub word-behind : Board → (part : List ℕ) → (g j : ℕ) → List ℕ
@@ -224,7 +224,7 @@ opened-part b f ps a = opened-from (columns b) 0 0 b f ps (a / b .wide) (a % b .
 unfoldable pub opened : (rule : List ℕ → List ℕ) → (key : List ℕ) → (a : ℕ) → List ℕ
 opened f ks a =
     let h = head-in ks in
-    let b = h .board in opened-part b f (row-part b (h .rest) (a / b .wide)) a
+    let b = h .board in opened-part b f (grid-row-part b (h .rest) (a / b .wide)) a
 
 -- A KEY'S PARTS, read from the whole key, and the bytes that write them
 
@@ -240,21 +240,21 @@ marks-in zero j ps = []
 marks-in (suc k) j ps = bit (getD ps (j / 8) 0) (j % 8) ∷ marks-in k (suc j) ps
 
 -- the marks of all grid rows
-unfoldable pub marks-of-rows : (left : ℕ) → Board → (body : List ℕ) → List Bool
-marks-of-rows zero b bs = []
-marks-of-rows (suc k) b bs = marks-in (columns b) 0 bs ++ marks-of-rows k b (drop (stride b) bs)
+unfoldable pub marks-of-grid-rows : (left : ℕ) → Board → (body : List ℕ) → List Bool
+marks-of-grid-rows zero b bs = []
+marks-of-grid-rows (suc k) b bs = marks-in (columns b) 0 bs ++ marks-of-grid-rows k b (drop (stride b) bs)
 
 -- the held seeds of all grid rows
-unfoldable pub seeds-of-rows : (left : ℕ) → Board → (body : List ℕ) → List (List ℕ)
-seeds-of-rows zero b bs = []
-seeds-of-rows (suc k) b bs = words-from (columns b / 2) 32 (drop (mark-bytes b) bs) ++ seeds-of-rows k b (drop (stride b) bs)
+unfoldable pub seeds-of-grid-rows : (left : ℕ) → Board → (body : List ℕ) → List (List ℕ)
+seeds-of-grid-rows zero b bs = []
+seeds-of-grid-rows (suc k) b bs = words-from (columns b / 2) 32 (drop (mark-bytes b) bs) ++ seeds-of-grid-rows k b (drop (stride b) bs)
 
 -- the parts in the bytes behind a header
 unfoldable pub parts-of : Board → (body : List ℕ) → Parts
 parts-of b bs =
     record {
-      marks = marks-of-rows (grid-rows b) b bs;
-      seeds = seeds-of-rows (grid-rows b) b bs;
+      marks = marks-of-grid-rows (grid-rows b) b bs;
+      seeds = seeds-of-grid-rows (grid-rows b) b bs;
       words = words-from (columns b) (row-long b) (drop (grid-rows b * stride b) bs);
     }
 
@@ -274,15 +274,15 @@ packed-marks zero ms = []
 packed-marks (suc l) ms = byte-of 8 0 ms ∷ packed-marks l (drop 8 ms)
 
 -- marks and held seeds of all grid rows as bytes
-unfoldable pub rows-written : (left : ℕ) → Board → List Bool → List (List ℕ) → List ℕ
-rows-written zero b ms ss = []
-rows-written (suc k) b ms ss =
+unfoldable pub grid-rows-written : (left : ℕ) → Board → List Bool → List (List ℕ) → List ℕ
+grid-rows-written zero b ms ss = []
+grid-rows-written (suc k) b ms ss =
     packed-marks (mark-bytes b) (take (columns b) ms) ++ glued (take (columns b / 2) ss)
-    ++ rows-written k b (drop (columns b) ms) (drop (columns b / 2) ss)
+    ++ grid-rows-written k b (drop (columns b) ms) (drop (columns b / 2) ss)
 
 -- the bytes that write a player's parts
 unfoldable pub key-written : Board → (player : ℕ) → Parts → List ℕ
-key-written b i q = header b i ++ rows-written (grid-rows b) b (q .marks) (q .seeds) ++ glued (q .words)
+key-written b i q = header b i ++ grid-rows-written (grid-rows b) b (q .marks) (q .seeds) ++ glued (q .words)
 
 -- FULL TABLES by the parts
 

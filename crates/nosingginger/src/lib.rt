@@ -1,37 +1,37 @@
 // The operations that a board and a phone call. None requires anything: each answers document 01's number, the first that fits, and its
-// contract, a definition of the crate entry, fixes the number, the value and every lent byte, of refused calls too. A refused call changes nothing
+// contract, a definition of the crate call_answers, fixes the number, the value and every lent byte, of refused calls too. A refused call changes nothing
 // that is lent. Deal, the openings and the joins are crates of their own, passed on here, as are Check key and Held seed of the crate keys.
 // Assumes nothing.
-ghost use Rattle.entry.specs.Entry.{Long-says, Expand-says, Width-says, Sensor-says};
+ghost use Rattle.call_answers.specs.Answers.{Long-says, Expand-says, Width-says, Sensor-says};
 ghost use mathlib.Core.Path.{_≡_};
 
 pub mod refusals;
 
+pub use call_answers::Answer;
+use call_answers::accepted;
+use call_answers::refusals::ACCEPTED;
+use call_answers::refusals::REFUSED_EXPANSION;
+use call_answers::refusals::REFUSED_LENT;
+use call_answers::refusals::REFUSED_PLAYERS;
+use call_answers::refusals::REFUSED_POSITIONS;
+use call_answers::refusals::REFUSED_SENSOR;
+use call_answers::refused;
 pub use deal_call::deal;
-pub use entry::Answer;
-use entry::accepted;
-use entry::refusals::ACCEPTED;
-use entry::refusals::REFUSED_EXPANSION;
-use entry::refusals::REFUSED_LENT;
-use entry::refusals::REFUSED_PLAYERS;
-use entry::refusals::REFUSED_POSITIONS;
-use entry::refusals::REFUSED_SENSOR;
-use entry::refused;
 use grid::board::Board;
 use grid::board::LEAST_PLAYERS;
 use grid::board::MOST_PLAYERS;
 use grid::board::MOST_POSITIONS;
 use grid::board::within;
 use grid::sensor::SENSORS;
-pub use join_calls::join_keys;
-pub use join_shares::join_shares;
+pub use join_keys_call::join_keys;
+pub use join_shares_call::join_shares;
 pub use key_check::check::KeyCheck;
 pub use key_check::check::check_key;
 pub use key_check::held::held_seed;
+pub use key_header::Header;
 use key_lengths::SEED_BYTES;
-pub use key_reading::Header;
-pub use open_calls::open_all;
-pub use open_calls::open_one;
+pub use open_call::open_all;
+pub use open_call::open_one;
 
 // The most bytes of a row.
 pub const MOST_ROW_BYTES: usize = 4096;
@@ -87,6 +87,6 @@ pub fn expand_seed(seed: &[u8], output: &mut [u8]) -> u32
     if MOST_ROW_BYTES < output.len() {
         return REFUSED_EXPANSION;
     }
-    one_row::expand(seed, output);
+    seed_row::expand(seed, output);
     ACCEPTED
 }

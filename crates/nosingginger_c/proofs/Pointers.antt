@@ -9,11 +9,11 @@ use Rattle.xor.specs.Xor.{bytes-good}
 use Rattle.keys.specs.Held.{held-seed-place, Held-at, Place-holds}
 use Rattle.keys.proofs.Holding.{place-holds}
 use Rattle.key_check.specs.Checked.{checked-as, key-checked}
-use Rattle.key_reading.specs.declared.Header.{Header}
+use Rattle.key_header.specs.declared.Header.{Header}
 use Rattle.key_check.specs.declared.check.KeyCheck.{KeyCheck}
 use Rattle.key_check.proofs.Says.{refused-says}
-use Rattle.entry.specs.Entry.{says}
-use Rattle.entry.specs.declared.Answer.{Answer}
+use Rattle.call_answers.specs.Answers.{says}
+use Rattle.call_answers.specs.declared.Answer.{Answer}
 use Rattle.nosingginger_c.specs.C.{Through, Value-put, Check-says, Held-says}
 
 pub value-kept : (n v o : ℕ) → (n ≡ 0 → ⊥) → Value-put n v n o o

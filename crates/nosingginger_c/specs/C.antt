@@ -5,7 +5,7 @@ use mathlib.Core.Bool.{cond}
 use mathlib.Core.List.{List, []}
 use Prim.Native.Nat.{ℕ}
 use lib.Dec.{eqb}
-use Rattle.entry.specs.declared.Answer.{Answer}
+use Rattle.call_answers.specs.declared.Answer.{Answer}
 use Rattle.keys.specs.Held.{held-seed-place, Held-at}
 use Rattle.key_check.specs.Checked.{Checked, key-checked}
 

@@ -1,8 +1,8 @@
 // The C interface: the eleven operations as C functions, each over the call of its name. A slice is a pointer and a length. Results are
 // u32 or u64, and everything else is written through pointers, so that one module serves every machine. Assumes nothing.
 ghost use mathlib.Core.Path.{_≡_};
-ghost use Rattle.entry.specs.Entry.{Deal-says, Long-says, Open-one-says, Open-all-says, Join-says, Expand-says, Width-says, Sensor-says};
-ghost use Rattle.join_calls.specs.JoinKeys.{Join-keys-says};
+ghost use Rattle.call_answers.specs.Answers.{Deal-says, Long-says, Open-one-says, Open-all-says, Join-says, Expand-says, Width-says, Sensor-says};
+ghost use Rattle.join_keys_call.specs.JoinKeys.{Join-keys-says};
 ghost use Rattle.nosingginger_c.specs.C.{Through, Value-put, Check-says, Held-says};
 use key_check::held::held_seed_place;
 use nosingginger::Answer;

@@ -11,7 +11,7 @@ use lib.Seq.{take-all}
 use borrow.Author.Tests.{ltb-true, ltb-false}
 use Rattle.writer.specs.Written.{Wrote}
 use Rattle.writer.proofs.Laws.{written-front}
-use Rattle.entry.specs.Entry.{in-front}
+use Rattle.call_answers.specs.Answers.{in-front}
 use Rattle.text.specs.Text.{refused-line}
 use Rattle.program_output.specs.Output.{Writes, Read-of, Of-read}
 

@@ -18,11 +18,11 @@ use Rattle.key_check.specs.Checked.{head-numbers, checked-as, key-checked}
 use Rattle.key_check.specs.declared.check.KeyCheck.{KeyCheck}
 use Rattle.keys.proofs.Accepted.{passed}
 use Rattle.keys.proofs.Promise.{dealt-accepted, dealt-board, dealt-player, accepted-is-drawn, held-is-read}
-use Rattle.entry.specs.Entry.{lent, rule, Deal-says, Open-one-says, Open-all-says, joined-shares, shares-refusal, Join-says, Expand-says}
-use Rattle.join_calls.specs.JoinKeys.{Join-keys-says}
+use Rattle.call_answers.specs.Answers.{lent, rule, Deal-says, Open-one-says, Open-all-says, joined-shares, shares-refusal, Join-says, Expand-says}
+use Rattle.join_keys_call.specs.JoinKeys.{Join-keys-says}
 use Rattle.promises.specs.Calls.{key-part, Deals-open, dealing-of, Deals-drawn, Accepted-opens, Opens-agree, Joins-agree}
 use Rattle.promises.specs.Calls.{Untouched, Refused-leaves, Answered-keeps}
-use Rattle.entry.proofs.Putting.{room-there, answer-is, put, untouched, take-front, part-front}
+use Rattle.call_answers.proofs.Putting.{room-there, answer-is, put, untouched, take-front, part-front}
 use Rattle.promises.proofs.OpenedKey.{expansion, all-answered, one-answered, all-opened, one-opened, own-table-long, own-entry, own-entry-long, entry-fits}
 use Rattle.promises.proofs.JoinedKeys.{joined-says, part-fine, joined-word, joined-as-opened}
 use Rattle.promises.proofs.DealtCalls.{past, left, part-is, part-opens, parts-join, parts-joined, keys-past, square-joined}

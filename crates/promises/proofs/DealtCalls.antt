@@ -18,12 +18,12 @@ use Rattle.keys.specs.Keys.{Lent, dealing, opened, key, keys-from, key-long, de
 use Rattle.keys.specs.Promise.{lent-good, point-table, Dealt-accepted, Keys-open, Tables-join}
 use Rattle.keys.proofs.Dealing.{lent-in}
 use Rattle.keys.proofs.Promise.{dealt-accepted, dealt-board, dealt-word, keys-open, tables-join}
-use Rattle.entry.specs.Entry.{or-else, in-front, says, lent, rule, key-rule, Deal-says, Long-says, Open-one-says, Open-all-says, joined-shares, shares-refusal, Join-says}
-use Rattle.join_calls.specs.JoinKeys.{Join-keys-says}
+use Rattle.call_answers.specs.Answers.{or-else, in-front, says, lent, rule, key-rule, Deal-says, Long-says, Open-one-says, Open-all-says, joined-shares, shares-refusal, Join-says}
+use Rattle.join_keys_call.specs.JoinKeys.{Join-keys-says}
 use Rattle.promises.specs.Calls.{Dealt, key-part, Past-kept}
-use Rattle.entry.specs.declared.Answer.{Answer}
-use Rattle.join_calls.proofs.InTurn.{neither}
-use Rattle.entry.proofs.Putting.{room-there, answer-is, put, take-front, drop-front, length-front}
+use Rattle.call_answers.specs.declared.Answer.{Answer}
+use Rattle.join_keys_call.proofs.InTurn.{neither}
+use Rattle.call_answers.proofs.Putting.{room-there, answer-is, put, take-front, drop-front, length-front}
 use Rattle.promises.proofs.OpenedKey.{opened-table, expansion, all-answered, one-opened, own-entry-long}
 use Rattle.promises.proofs.DealtKeys.{lent-accepted, keys-length, key-cut, tables-over, keys-joined}
 

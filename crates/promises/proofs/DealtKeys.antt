@@ -21,10 +21,10 @@ use Rattle.keys.proofs.Accepted.{pass}
 use Rattle.keys.proofs.Dealing.{Lent-in, lent-in}
 use Rattle.keys.proofs.Numbers.{header-read-back}
 use Rattle.keys.proofs.Promise.{dealt-board, dealt-player, dealt-key, dealt-word, keys-long, keys-apart, full-tables-join}
-use Rattle.entry.specs.Entry.{or-else, in-front, rule}
-use Rattle.join_calls.specs.JoinKeys.{head-refusal, same-board, place-refusal, places-refusal, keys-refusal, joined-table, Join-keys-says}
-use Rattle.join_calls.proofs.InTurn.{numbers-none}
-use Rattle.entry.proofs.Putting.{nothing-refuses, room-enough, answer-is, put, part-front}
+use Rattle.call_answers.specs.Answers.{or-else, in-front, rule}
+use Rattle.join_keys_call.specs.JoinKeys.{head-refusal, same-board, place-refusal, places-refusal, keys-refusal, joined-table, Join-keys-says}
+use Rattle.join_keys_call.proofs.InTurn.{numbers-none}
+use Rattle.call_answers.proofs.Putting.{nothing-refuses, room-enough, answer-is, put, part-front}
 use Rattle.promises.proofs.OpenedKey.{expansion}
 
 -- an accepted dealing of bytes

@@ -17,11 +17,11 @@ use Rattle.grid.specs.Joining.{over}
 use Rattle.grid.proofs.Sums.{over-same, over-word}
 use Rattle.keys.specs.Keys.{key-long, key-refusal, head-in, table}
 use Rattle.keys.proofs.Accepted.{passed}
-use Rattle.entry.specs.Entry.{in-front, rule, Open-all-says}
-use Rattle.join_calls.specs.JoinKeys.{head-refusal, places-refusal, keys-refusal, joined-table, Join-keys-says}
+use Rattle.call_answers.specs.Answers.{in-front, rule, Open-all-says}
+use Rattle.join_keys_call.specs.JoinKeys.{head-refusal, places-refusal, keys-refusal, joined-table, Join-keys-says}
 use Rattle.promises.specs.Calls.{key-part}
-use Rattle.join_calls.proofs.InTurn.{neither, place-accepted, places-each}
-use Rattle.entry.proofs.Putting.{room-there, answer-is, put, take-front}
+use Rattle.join_keys_call.proofs.InTurn.{neither, place-accepted, places-each}
+use Rattle.call_answers.proofs.Putting.{room-there, answer-is, put, take-front}
 use Rattle.promises.proofs.OpenedKey.{named-table-word, opened-table}
 
 -- what is left of the chain where nothing is refused

@@ -1,5 +1,5 @@
 -- The promises' terms, with the laws that they are made of. Assumes nothing.
-pub mod Marked
+pub mod Daggers
 pub mod OpenedKey
 pub mod DealtKeys
 pub mod DealtCalls

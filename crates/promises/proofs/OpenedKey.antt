@@ -16,9 +16,9 @@ use Rattle.grid.specs.Grid.{Board, row-long}
 use Rattle.keys.specs.Keys.{key-refusal, head-in, table, opened}
 use Rattle.keys.specs.Promise.{Rule-good, entry, Table-long, Opens-alone}
 use Rattle.keys.proofs.Promise.{table-long, opens-alone}
-use Rattle.entry.specs.Entry.{or-else, in-front, rule, key-rule, Open-one-says, Open-all-says}
-use Rattle.join_calls.proofs.InTurn.{neither}
-use Rattle.entry.proofs.Putting.{nothing-refuses, room-there, room-enough, square-there, square-in, answer-is, put, take-front}
+use Rattle.call_answers.specs.Answers.{or-else, in-front, rule, key-rule, Open-one-says, Open-all-says}
+use Rattle.join_keys_call.proofs.InTurn.{neither}
+use Rattle.call_answers.proofs.Putting.{nothing-refuses, room-there, room-enough, square-there, square-in, answer-is, put, take-front}
 
 -- EXPANSION IS A ROW RULE
 

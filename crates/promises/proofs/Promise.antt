@@ -1,7 +1,7 @@
 -- THE PROMISES of specs/Promise.antt, kept: one term, its fields named after the statements, which `promises::kept` asks for. Those of the scheme
 -- are proved in the crate grid, those of keys as bytes in the crate keys, those of the calls and the marked deals here. Assumes nothing.
 use Rattle.chacha20.proofs.Stream.{rows-by-rfc8439}
-use Rattle.grid.proofs.Arrays.{each-column-once, half-is-marked, half-of-each-row, one-row-unheld}
+use Rattle.grid.proofs.Arrays.{each-column-once, half-is-marked, half-of-each-grid-row, one-row-unheld}
 use Rattle.grid.proofs.Cells.{piece-cells}
 use Rattle.grid.proofs.LastWord.{last-word-completes}
 use Rattle.grid.proofs.Joining.{shares-join, words-join}
@@ -16,7 +16,7 @@ use Rattle.keys.proofs.Document03
 use Rattle.promises.specs.Promise.{Expansion-is-a-rule, Promises}
 use Rattle.promises.proofs.OpenedKey.{expansion}
 use Rattle.promises.proofs.Calls.{deals-open, deals-drawn, accepted-opens, opens-agree, joins-agree, refused-leaves, answered-keeps}
-use Rattle.promises.proofs.Marked.{marked-deals}
+use Rattle.promises.proofs.Daggers.{dagger-lines}
 
 pub expansion-is-a-rule : Expansion-is-a-rule
 unfolding Expansion-is-a-rule
@@ -61,14 +61,14 @@ promises =
       answered-keeps = answered-keeps;
       each-column-once = each-column-once;
       half-is-marked = half-is-marked;
-      half-of-each-row = half-of-each-row;
+      half-of-each-grid-row = half-of-each-grid-row;
       shares-join = shares-join;
       words-join = words-join;
       last-word-completes = last-word-completes;
       piece-cells = piece-cells;
       width-is-least = width-is-least;
       width-serves = width-serves;
-      marked-deals = marked-deals;
+      dagger-lines = dagger-lines;
       document-03-same-opening = Document03.same-opening;
       document-03-tables-join = Document03.tables-join;
       document-03-keys-open = Document03.keys-open;

@@ -1,4 +1,4 @@
--- What the calls promise together, from their contracts alone, with expansion as the rule. The contracts are those of Entry.antt and
+-- What the calls promise together, from their contracts alone, with expansion as the rule. The contracts are those of Answers.antt and
 -- JoinKeys.antt; here they are read from the outside: a call was lent some bytes, answered a number `r`, and left `out-now` where `out`
 -- was. A reader who knows the contracts' names need not know what stands between a deal and its table. Quotations are document 01's.
 -- Each statement is a type; proofs/Calls.antt has a term of it under its name in small letters. Assumes nothing.
@@ -15,9 +15,9 @@ use Rattle.keys.specs.Keys.{dealing, key-refusal, head-in, key-long}
 use Rattle.key_check.specs.Checked.{checked-as, key-checked}
 use Rattle.key_check.specs.declared.check.KeyCheck.{KeyCheck}
 use Rattle.keys.specs.Promise.{entry, point-table, held-in}
-use Rattle.entry.specs.Entry.{lent, rule, Deal-says, Long-says, Open-one-says, Open-all-says, Join-says, Expand-says, in-front}
-use Rattle.join_calls.specs.JoinKeys.{Join-keys-says}
-use Rattle.entry.specs.declared.Answer.{Answer}
+use Rattle.call_answers.specs.Answers.{lent, rule, Deal-says, Long-says, Open-one-says, Open-all-says, Join-says, Expand-says, in-front}
+use Rattle.join_keys_call.specs.JoinKeys.{Join-keys-says}
+use Rattle.call_answers.specs.declared.Answer.{Answer}
 
 -- A DEAL THAT WAS ANSWERED BY 0: Deal was lent bytes and left `keys-now` in its output; Key length was asked for the same board
 pub record Dealt (p n m w point : ℕ) (value : List ℕ) (long : Answer) (keys-now : List ℕ) : Type 0 where

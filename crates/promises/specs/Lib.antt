@@ -1,3 +1,3 @@
 pub mod Calls
-pub mod Marked
+pub mod Daggers
 pub mod Promise

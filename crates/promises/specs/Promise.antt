@@ -3,7 +3,7 @@
 -- of positions, every grid width and every value width at once. Quotations are document 01's. Assumes nothing.
 use Rattle.grid.specs.Grid.{Board}
 pub use Rattle.chacha20.specs.Rfc8439.{Rows-by-rfc8439}
-unfoldable pub use Rattle.grid.specs.Arrays.{Each-column-once, Half-is-marked, Half-of-each-row, One-row-unheld}
+unfoldable pub use Rattle.grid.specs.Arrays.{Each-column-once, Half-is-marked, Half-of-each-grid-row, One-row-unheld}
 unfoldable pub use Rattle.grid.specs.Joining.{Shares-join, Words-join, Last-word-completes, Piece-cells}
 unfoldable pub use Rattle.grid.specs.Hiding.{Tells-nothing, Just-one-dealing, No-other-dealing}
 unfoldable pub use Rattle.grid.specs.Moving.{Moved-is-named, Moving-finds}
@@ -13,17 +13,17 @@ unfoldable pub use Rattle.keys.specs.Promise.{Rule-good, Table-long, Opens-alon
 unfoldable pub use Rattle.keys.specs.Promise.{Accepted-is-drawn, Held-is-read, Same-keys, Same-keys-for-others, Keys-tell-nothing}
 unfoldable pub use Rattle.keys.specs.Held.{Place-holds, Held-as-dealt}
 use Rattle.keys.specs.Document03
-use Rattle.entry.specs.Entry.{rule}
+use Rattle.call_answers.specs.Answers.{rule}
 unfoldable pub use Rattle.promises.specs.Calls.{Deals-open, Deals-drawn, Accepted-opens, Opens-agree, Joins-agree}
 pub use Rattle.promises.specs.Calls.{Refused-leaves, Answered-keeps}
-unfoldable pub use Rattle.promises.specs.Marked.{Marked-deals}
+unfoldable pub use Rattle.promises.specs.Daggers.{Dagger-lines}
 
 -- "A row rule gives each 32-byte seed some μ × w bytes; expansion is one"
 unfoldable pub Expansion-is-a-rule : Type 0
 Expansion-is-a-rule = (b : Board) → Rule-good b (λ seed. rule b seed)
 
 pub record Promises : Type 0 where
-  -- THE SECOND DEMAND, beside the contracts of Entry.antt and JoinKeys.antt: keys as bytes
+  -- THE SECOND DEMAND, beside the contracts of Answers.antt and JoinKeys.antt: keys as bytes
   -- a header is the only writing of its numbers, and the rest of the key stands behind it
   pub header-reads : Header-reads
   -- a dealt key is read as the parts dealt
@@ -91,7 +91,7 @@ pub record Promises : Type 0 where
   pub each-column-once : Each-column-once
   -- "A player marks exactly J/2 columns."
   pub half-is-marked : Half-is-marked
-  pub half-of-each-row : Half-of-each-row
+  pub half-of-each-grid-row : Half-of-each-grid-row
   -- good dealings' shares join; what all words and rows of a grid row make; the last word completes it; the piece's cells
   pub shares-join : Shares-join
   pub words-join : Words-join
@@ -101,7 +101,7 @@ pub record Promises : Type 0 where
   pub width-is-least : Width-is-least
   pub width-serves : Width-serves
   -- THE MARKED DEALS, all † lines in one table
-  pub marked-deals : Marked-deals
+  pub dagger-lines : Dagger-lines
   -- DOCUMENT 03'S OWN STATEMENTS, where those above ask less of a rule or read less of a key; its opening is the one above
   pub document-03-same-opening : Document03.Same-opening
   pub document-03-tables-join : Document03.Tables-join

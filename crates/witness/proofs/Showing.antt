@@ -22,13 +22,13 @@ use Rattle.keys.specs.Promise.{point-table}
 use Rattle.keys.proofs.Accepted.{passed, refusing}
 use Rattle.keys.proofs.Dealing.{lent-in}
 use Rattle.keys.proofs.Numbers.{one-group}
-use Rattle.entry.specs.Entry.{or-else, in-front, Put-says, lent, rule, key-rule, Deal-says, Long-says, Open-one-says, Open-all-says}
+use Rattle.call_answers.specs.Answers.{or-else, in-front, Put-says, lent, rule, key-rule, Deal-says, Long-says, Open-one-says, Open-all-says}
 use Rattle.promises.specs.Calls.{Dealt, key-part, Keys-good, Deals-open, Opens-agree, Past-kept}
-use Rattle.entry.specs.declared.Answer.{Answer}
+use Rattle.call_answers.specs.declared.Answer.{Answer}
 use Rattle.witness.specs.Witness.{piece-refusal, Shows-the-piece, Both-ways, keys-lent, table-of, Opens-each, tables-joined, last-table}
-use Rattle.entry.proofs.Answering.{put-number, put-refused, put-done, first-fits, next-fits, in-front-part}
-use Rattle.join_calls.proofs.InTurn.{neither}
-use Rattle.entry.proofs.Putting.{answer-is, untouched}
+use Rattle.call_answers.proofs.Answering.{put-number, put-refused, put-done, first-fits, next-fits, in-front-part}
+use Rattle.join_keys_call.proofs.InTurn.{neither}
+use Rattle.call_answers.proofs.Putting.{answer-is, untouched}
 use Rattle.promises.proofs.OpenedKey.{all-answered, all-opened, one-opened, own-table-long}
 use Rattle.promises.proofs.DealtKeys.{tables-over}
 use Rattle.promises.proofs.DealtCalls.{Left, left, part-is, keys-past}

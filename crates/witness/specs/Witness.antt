@@ -10,7 +10,7 @@ use Rattle.grid.specs.Grid.{Board}
 use Rattle.grid.specs.Joining.{over}
 use Rattle.keys.specs.Keys.{Lent, deal-refusal, key, keys-from, key-long, key-refusal, head-in, table}
 use Rattle.keys.specs.Promise.{entry, point-table}
-use Rattle.entry.specs.Entry.{or-else, rule, key-rule, Put-says, Open-one-says}
+use Rattle.call_answers.specs.Answers.{or-else, rule, key-rule, Put-says, Open-one-says}
 use Rattle.promises.specs.Calls.{key-part}
 
 -- of a board, what Deal is lent for it, and three outputs as they were

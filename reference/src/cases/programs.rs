@@ -1,4 +1,4 @@
-//! The cases of the two programs, for `crates/program_cases`: files with what a program reads
+//! The cases of the two programs, for `crates/test_programs`: files with what a program reads
 //! and what it writes, and a list that says which belong together. A file may stand in several
 //! cases: keys that are dealt in one are joined in the next. Each case that is made to be
 //! refused names document 01's number, and making it fails when this implementation answers

@@ -2,9 +2,9 @@
 use mathlib.Core.Path.{sym, _∙_}
 use native.Mathlib.Omega.{arith}
 use Rattle.grid.specs.Grid.{board}
-use Rattle.entry.specs.Entry.{lent}
+use Rattle.call_answers.specs.Answers.{lent}
 use Rattle.deal_call.proofs.Lending.{deal-fine, deal-refused, deal-room-refused, dealt}
-use Rattle.entry.proofs.Sizes.{keys-short, room-for}
+use Rattle.call_answers.proofs.Sizes.{keys-short, room-for}
 use borrow.Author.Needs.{needs}
 use Rattle.deal_call.proofs.deal.Statement.{statement}
 use Rattle.deal_call.proofs.deal.Tie as tie

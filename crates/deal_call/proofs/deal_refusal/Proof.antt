@@ -3,7 +3,7 @@ use mathlib.Core.Path.{_≡_, sym, _∙_}
 use native.Mathlib.Omega.{arith}
 use Rattle.grid.specs.Grid.{board, board-refusal}
 use Rattle.grid.specs.Code.{board-of}
-use Rattle.entry.specs.Entry.{lent}
+use Rattle.call_answers.specs.Answers.{lent}
 use Rattle.deal_call.proofs.Lending.{deal-board, deal-point, deal-lent, arrays-fit, deal-arrays, deal-none}
 use borrow.Author.Needs.{needs}
 use Rattle.deal_call.proofs.deal_refusal.Statement.{statement}

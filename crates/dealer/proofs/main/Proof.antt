@@ -1,7 +1,7 @@
 -- `dealer::main` is safe: no more is written than the output has room for. Assumes nothing.
 use mathlib.Core.Path.{sym}
 use lib.Seq.{length-take-le}
-use Rattle.dealing_program.proofs.Dealings.{deals-read-within}
+use Rattle.program_deal.proofs.Dealings.{deals-read-within}
 use borrow.Author.Needs.{needs}
 use Rattle.dealer.proofs.main.Statement.{statement}
 use Rattle.dealer.proofs.main.Tie as tie

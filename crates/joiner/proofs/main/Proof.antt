@@ -1,7 +1,7 @@
 -- `joiner::main` is safe: no more is written than the output has room for. Assumes nothing.
 use mathlib.Core.Path.{sym}
 use lib.Seq.{length-take-le}
-use Rattle.joining_program.proofs.Joinings.{joins-read-within}
+use Rattle.program_join.proofs.Joinings.{joins-read-within}
 use borrow.Author.Needs.{needs}
 use Rattle.joiner.proofs.main.Statement.{statement}
 use Rattle.joiner.proofs.main.Tie as tie

@@ -3,7 +3,7 @@
 use native.Mathlib.Omega.{arith}
 use Rattle.grid.specs.Grid.{board}
 use Rattle.grid.specs.Code.{board-of}
-use Rattle.key_reading.specs.Answers.{header-written}
+use Rattle.key_header.specs.Answers.{header-written}
 use Rattle.key_lengths.proofs.Lengths.{number-short, header-sum}
 use borrow.Author.Needs.{needs}
 use Rattle.key_lengths.proofs.header_length.Statement.{statement}

@@ -2,7 +2,7 @@
 use native.Mathlib.Omega.{arith}
 use Rattle.grid.specs.Code.{board-of}
 use Rattle.keys.specs.Keys.{key-long, stride}
-use Rattle.key_reading.specs.Answers.{header-written}
+use Rattle.key_header.specs.Answers.{header-written}
 use Rattle.key_lengths.proofs.Lengths.{product-in, rows-in, words-in, header-short}
 use borrow.Author.Needs.{needs}
 use Rattle.key_lengths.proofs.key_length.Statement.{statement}

@@ -2,9 +2,9 @@
 use mathlib.Core.Path.{_≡_, _∙_}
 use Prim.Native.Nat.{ℕ}
 use Rattle.grid.proofs.Refusing.{In, Out, in-range, passed, failed}
-use Rattle.entry.specs.Entry.{Width-says}
-use Rattle.entry.specs.declared.Answer.{Answer}
-use Rattle.entry.proofs.Answering.{width-refused-1, width-refused-2, width-given}
+use Rattle.call_answers.specs.Answers.{Width-says}
+use Rattle.call_answers.specs.declared.Answer.{Answer}
+use Rattle.call_answers.proofs.Answering.{width-refused-1, width-refused-2, width-given}
 use borrow.Author.Needs.{needs}
 use Rattle.nosingginger.proofs.choose_width.Statement.{statement}
 use Rattle.nosingginger.proofs.choose_width.Tie as tie

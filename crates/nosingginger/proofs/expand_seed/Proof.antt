@@ -1,6 +1,6 @@
 -- `nosingginger::expand_seed` meets its contract. Assumes nothing.
 use native.Mathlib.Omega.{arith}
-use Rattle.entry.proofs.Answering.{expand-seed-refused, expand-room-refused, expanded}
+use Rattle.call_answers.proofs.Answering.{expand-seed-refused, expand-room-refused, expanded}
 use borrow.Author.Needs.{needs}
 use Rattle.nosingginger.proofs.expand_seed.Statement.{statement}
 use Rattle.nosingginger.proofs.expand_seed.Tie as tie

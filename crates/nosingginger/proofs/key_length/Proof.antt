@@ -1,9 +1,9 @@
 -- `nosingginger::key_length` meets its contract. Assumes nothing.
 use mathlib.Core.Path.{sym, _∙_}
 use native.Mathlib.Omega.{arith}
-use Rattle.entry.specs.Entry.{Long-says}
-use Rattle.entry.proofs.Answering.{says-refused, says-value}
-use Rattle.entry.proofs.Sizes.{key-most}
+use Rattle.call_answers.specs.Answers.{Long-says}
+use Rattle.call_answers.proofs.Answering.{says-refused, says-value}
+use Rattle.call_answers.proofs.Sizes.{key-most}
 use borrow.Author.Needs.{needs}
 use Rattle.nosingginger.proofs.key_length.Statement.{statement}
 use Rattle.nosingginger.proofs.key_length.Tie as tie

@@ -1,6 +1,6 @@
 -- `nosingginger::sensor_position` meets its contract. Assumes nothing.
 use mathlib.Core.Path.{_∙_}
-use Rattle.entry.proofs.Answering.{sensor-refused, sensor-given}
+use Rattle.call_answers.proofs.Answering.{sensor-refused, sensor-given}
 use borrow.Author.Needs.{needs}
 use Rattle.nosingginger.proofs.sensor_position.Statement.{statement}
 use Rattle.nosingginger.proofs.sensor_position.Tie as tie

@@ -1,6 +1,6 @@
 -- `nosingginger_c::nsg_choose_width` meets its contract. Assumes nothing.
 use Rattle.nosingginger_c.proofs.Pointers.{through}
-use Rattle.entry.specs.Entry.{Width-says}
+use Rattle.call_answers.specs.Answers.{Width-says}
 use borrow.Author.Needs.{needs}
 use Rattle.nosingginger_c.proofs.nsg_choose_width.Statement.{statement}
 use Rattle.nosingginger_c.proofs.nsg_choose_width.Tie as tie

@@ -1,6 +1,6 @@
 -- `nosingginger_c::nsg_key_length` meets its contract. Assumes nothing.
 use Rattle.nosingginger_c.proofs.Pointers.{through}
-use Rattle.entry.specs.Entry.{Long-says}
+use Rattle.call_answers.specs.Answers.{Long-says}
 use borrow.Author.Needs.{needs}
 use Rattle.nosingginger_c.proofs.nsg_key_length.Statement.{statement}
 use Rattle.nosingginger_c.proofs.nsg_key_length.Tie as tie

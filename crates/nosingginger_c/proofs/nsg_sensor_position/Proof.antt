@@ -1,6 +1,6 @@
 -- `nosingginger_c::nsg_sensor_position` meets its contract. Assumes nothing.
 use Rattle.nosingginger_c.proofs.Pointers.{through}
-use Rattle.entry.specs.Entry.{Sensor-says}
+use Rattle.call_answers.specs.Answers.{Sensor-says}
 use borrow.Author.Needs.{needs}
 use Rattle.nosingginger_c.proofs.nsg_sensor_position.Statement.{statement}
 use Rattle.nosingginger_c.proofs.nsg_sensor_position.Tie as tie

@@ -4,8 +4,8 @@ use native.Mathlib.Omega.{arith}
 use denote.Ref.{now}
 use Rattle.grid.specs.Grid.{board-refusal}
 use Rattle.grid.specs.Code.{board-of}
-use Rattle.key_reading.specs.Answers.{heading-in}
-use Rattle.key_reading.specs.declared.Heading.{Heading}
+use Rattle.key_header.specs.Answers.{heading-in}
+use Rattle.key_header.specs.declared.Heading.{Heading}
 use Rattle.key_check.proofs.Checks.{refused-number, refused-early, refused-length, refused-marks, accepted-key}
 use borrow.Author.Needs.{needs}
 use Rattle.key_check.proofs.check.check_key.Statement.{statement}

@@ -6,9 +6,9 @@ use Rattle.grid.proofs.Facts.{board-in}
 use Rattle.grid.proofs.board.Board.grid_rows.Statement.{statement}
 use Rattle.grid.proofs.board.Board.grid_rows.Tie as tie
 
-rows-for-requires : tie.Need-rows-for-requires
+grid-rows-for-requires : tie.Need-grid-rows-for-requires
 unfolding board
-rows-for-requires c κs =
+grid-rows-for-requires c κs =
     let a = board-in _ (c .pre) in (a .positions-most, a .wide-least, a .wide-most)
 
 cast-result : tie.Need-cast-result
@@ -16,7 +16,7 @@ cast-result c = search needs
 
 returns : tie.Need-returns
 unfolding board grid-rows
-returns c = c .rows-for .ensures
+returns c = c .grid-rows-for .ensures
 
 pub grid-rows-spec : {M : Type 1} → statement M
-grid-rows-spec = tie.close (tie.spec rows-for-requires cast-result returns)
+grid-rows-spec = tie.close (tie.spec grid-rows-for-requires cast-result returns)

@@ -55,7 +55,7 @@ returns-5 c =
     let width = bytes .before .before in
     let positions = width .before .before in
     refused-5 _ (players-in (positions .before .before)) (positions-in positions) (width-in width) (bytes-in bytes)
-    (sym (ap (λ (rows : ℕ). ltb 256 rows) (c .before .rows-for .ensures)) ∙ lt-ltb 256 (c .before .rows-for .result) (omega (arith, c .if5 .taken)))
+    (sym (ap (λ (rows : ℕ). ltb 256 rows) (c .before .grid-rows-for .ensures)) ∙ lt-ltb 256 (c .before .grid-rows-for .result) (omega (arith, c .if5 .taken)))
 
 returns-6 : tie.Need-returns-6
 unfolding board grid-rows
@@ -64,7 +64,7 @@ returns-6 c =
     let width = bytes .before .before in
     let positions = width .before .before in
     refused-0 _ (players-in (positions .before .before)) (positions-in positions) (width-in width) (bytes-in bytes)
-    (sym (ap (λ (rows : ℕ). ltb 256 rows) (c .before .rows-for .ensures)) ∙ le-ltb 256 (c .before .rows-for .result) (omega (arith, c .if5 .left)))
+    (sym (ap (λ (rows : ℕ). ltb 256 rows) (c .before .grid-rows-for .ensures)) ∙ le-ltb 256 (c .before .grid-rows-for .result) (omega (arith, c .if5 .left)))
 
 within-requires : tie.Need-within-requires
 within-requires c κs = search needs
@@ -78,8 +78,8 @@ within-requires-3 c κs = search needs
 within-requires-4 : tie.Need-within-requires-4
 within-requires-4 c κs = search needs
 
-rows-for-requires : tie.Need-rows-for-requires
-rows-for-requires c κs =
+grid-rows-for-requires : tie.Need-grid-rows-for-requires
+grid-rows-for-requires c κs =
     let width = in-range _ _ _ (width-in (c .before .before)) in
     let positions = in-range _ _ _ (positions-in (c .before .before .before .before)) in
     (positions .1, width .0, width .1)
@@ -96,6 +96,6 @@ refusal-spec =
     returns-3
     within-requires-4
     returns-4
-    rows-for-requires
+    grid-rows-for-requires
     returns-5
     returns-6)

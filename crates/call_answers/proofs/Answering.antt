@@ -1,0 +1,104 @@
+-- How an operation's answer is shown: what a refusal says, what an accepted call says, and the chain of numbers before either.
+-- Assumes nothing.
+use mathlib.Core.Path.{_≡_, refl, sym, _∙_}
+use mathlib.Core.List.{List, _++_, append-nil}
+use Prim.Native.Nat.{ℕ, zero, suc, _≤_, _<_}
+use native.Mathlib.Omega.{arith}
+use borrow.Author.Tests.{eq-eqb, ne-eqb, le-leb, lt-leb, le-ltb, lt-ltb}
+use lib.ListN.{length, drop}
+use lib.Seq.{drop-length}
+use Rattle.chacha20.specs.Expand.{expand}
+use Rattle.chacha20.proofs.Stream.{word-expand}
+use Rattle.grid.specs.Width.{width, sensor-position}
+use Rattle.grid.proofs.Refusing.{In, Out}
+use Rattle.call_answers.specs.Answers.{or-else, in-front, Put-says, says, Expand-says, width-refusal, Width-says, Sensor-says}
+use Rattle.call_answers.specs.declared.Answer.{Answer}
+
+-- WHAT A CALL SAYS
+
+module _ (n : ℕ) (bs : List ℕ) (r : ℕ) (o z : List ℕ) where
+  pub put-refused : (n ≡ 0 → ⊥) → r ≡ n → z ≡ o → Put-says n bs r o z
+  unfolding Put-says
+  put-refused = go n
+    where
+      go : (n : ℕ) → (n ≡ 0 → ⊥) → r ≡ n → z ≡ o → Put-says n bs r o z
+      go zero h e f = absurd (h refl)
+      go (suc n) h e f = (e, f)
+
+  pub put-done : n ≡ 0 → r ≡ 0 → z ≡ in-front bs o → Put-says n bs r o z
+  unfolding Put-says
+  put-done h e f = rw h (e, f)
+
+-- a refusal by the number that the chain comes to
+pub put-number : (n m : ℕ) (bs o : List ℕ) → n ≡ m → (m ≡ 0 → ⊥) → Put-says n bs m o o
+put-number n m bs o e h = put-refused n bs m o o (λ z. h (sym e ∙ z)) (sym e) refl
+
+module _ (n v : ℕ) (r : Answer) where
+  pub says-refused : (n ≡ 0 → ⊥) → r .refusal ≡ n → r .value ≡ 0 → says n v r
+  unfolding says
+  says-refused h e f = rw (ne-eqb n 0 h) (e, f)
+
+  pub says-value : n ≡ 0 → r .refusal ≡ 0 → r .value ≡ v → says n v r
+  unfolding says
+  says-value h e f = rw h (e, f)
+
+-- "the first number that fits is given"
+pub first-fits : (a b : ℕ) → (a ≡ 0 → ⊥) → or-else a b ≡ a
+unfolding or-else
+first-fits a b h = rw (ne-eqb a 0 h)
+
+pub next-fits : (a b : ℕ) → a ≡ 0 → or-else a b ≡ b
+unfolding or-else
+next-fits a b h = rw (eq-eqb a 0 h)
+
+-- the bytes named fill the output
+pub in-front-whole : (new old : List ℕ) → length new ≡ length old → in-front new old ≡ new
+unfolding in-front
+in-front-whole new old e = rw (e, drop-length old, append-nil)
+
+-- they fill its first part
+pub in-front-part : (new last old : List ℕ) (k : ℕ) → length last ≡ k → last ≡ new → last ++ drop k old ≡ in-front new old
+unfolding in-front
+in-front-part new last old k l e = rw (← e, l)
+
+-- EXPAND
+
+module _ (seed o : List ℕ) where
+  pub expand-seed-refused : (length seed ≡ 32 → ⊥) → Expand-says seed 7 o o
+  unfolding Expand-says
+  expand-seed-refused h = rw (ne-eqb (length seed) 32 h) (put-refused 7 _ 7 o o (λ e. omega arith) refl refl)
+
+  pub expand-room-refused : length seed ≡ 32 → 4096 < length o → Expand-says seed 16 o o
+  unfolding Expand-says
+  expand-room-refused h k =
+      rw (eq-eqb (length seed) 32 h, lt-ltb 4096 (length o) k) (put-refused 16 _ 16 o o (λ e. omega arith) refl refl)
+
+  pub expanded : (z : List ℕ) → length seed ≡ 32 → length o ≤ 4096 → z ≡ expand (length o) seed → Expand-says seed 0 o z
+  unfolding Expand-says
+  expanded z h k e =
+      rw (eq-eqb (length seed) 32 h, le-ltb 4096 (length o) k)
+      (put-done 0 _ 0 o z refl refl (e ∙ sym (in-front-whole (expand (length o) seed) o (word-expand (length o) seed .long))))
+
+-- CHOOSE WIDTH AND SENSOR POSITION
+
+module _ (p n : ℕ) (r : Answer) where
+  pub width-refused-1 : Out 2 p 6 → r .refusal ≡ 1 → r .value ≡ 0 → Width-says p n r
+  unfolding Width-says width-refusal
+  width-refused-1 h e f = rw h (says-refused 1 _ r (λ z. omega arith) e f)
+
+  pub width-refused-2 : In 2 p 6 → Out 1 n 65536 → r .refusal ≡ 2 → r .value ≡ 0 → Width-says p n r
+  unfolding Width-says width-refusal
+  width-refused-2 h k e f = rw (h, k) (says-refused 2 _ r (λ z. omega arith) e f)
+
+  pub width-given : In 2 p 6 → In 1 n 65536 → r .refusal ≡ 0 → r .value ≡ width p n → Width-says p n r
+  unfolding Width-says width-refusal
+  width-given h k e f = rw (h, k) (says-value 0 _ r refl e f)
+
+module _ (s : ℕ) (r : Answer) where
+  pub sensor-refused : 72 ≤ s → r .refusal ≡ 17 → r .value ≡ 0 → Sensor-says s r
+  unfolding Sensor-says
+  sensor-refused h e f = rw (le-leb 72 s h) (says-refused 17 _ r (λ z. omega arith) e f)
+
+  pub sensor-given : s < 72 → r .refusal ≡ 0 → r .value ≡ sensor-position s → Sensor-says s r
+  unfolding Sensor-says
+  sensor-given h e f = rw (lt-leb 72 s h) (says-value 0 _ r refl e f)

@@ -1,0 +1,96 @@
+-- What the operations answer and leave behind: document 03's Entry, word for word but for a name, `width-refusal`. Each is an equation that
+-- fixes the number, the value and every lent byte, refused calls too. Join keys has its own file; Check key and
+-- Held seed answer as the crate keys says. Assumes nothing: these are definitions.
+use mathlib.Core.Path.{_≡_}
+use mathlib.Core.Bool.{_&&_, not, cond}
+use mathlib.Core.List.{List, _++_}
+use Prim.Native.Nat.{ℕ, zero, suc, _+_, _*_}
+use lib.Dec.{ltb, leb, eqb}
+use lib.ListN.{length, take, drop}
+use Rattle.xor.specs.Xor.{xors, zeros}
+use Rattle.chacha20.specs.Expand.{expand}
+use Rattle.grid.specs.Grid.{Board, board, board-refusal, row-long}
+use Rattle.grid.specs.Width.{width, sensor-position}
+use Rattle.keys.specs.Keys.{Lent, deal-refusal, keys-from, key-long, key-refusal, head-in, opened, table}
+use Rattle.call_answers.specs.declared.Answer.{Answer}
+
+-- "the first number that fits is given": a number, or else the next
+unfoldable pub or-else : (a b : ℕ) → ℕ
+or-else a b = cond (eqb a 0) b a
+
+-- "output past the bytes named keeps its bytes"
+unfoldable pub in-front : (new old : List ℕ) → List ℕ
+in-front new old = new ++ drop (length new) old
+
+-- "either the full result or the first refusal number that fits, the lent output then unchanged"
+unfoldable pub Put-says : (refusal : ℕ) → (bytes : List ℕ) → (r : ℕ) → (out out-now : List ℕ) → Type 0
+Put-says zero bs r o z = (r ≡ 0) × (z ≡ in-front bs o)
+Put-says (suc n) bs r o z = (r ≡ suc n) × (z ≡ o)
+
+-- a number and a value; the value of a refused call is 0
+unfoldable pub says : (refusal value : ℕ) → Answer → Type 0
+says n v r = (r .refusal ≡ n) × (r .value ≡ cond (eqb n 0) v 0)
+
+-- what Deal is lent
+unfoldable pub lent : (point : ℕ) → (value arrays seeds words : List ℕ) → Lent
+lent a v cs ss ws = record { point = a; value = v; arrays = cs; seeds = ss; words = ws }
+
+-- "a row is the first μ × w bytes of the key stream"
+unfoldable pub rule : Board → List ℕ → List ℕ
+rule b seed = expand (row-long b) seed
+
+-- DEAL: 1 to 8, 9; p keys one after another, player 0 first
+unfoldable pub Deal-says : (p n m w point : ℕ) → (value arrays seeds words : List ℕ) → (r : ℕ) → (out out-now : List ℕ) → Type 0
+Deal-says p n m w a v cs ss ws r o z =
+    Put-says
+    (or-else (deal-refusal (board p n m w) (lent a v cs ss ws)) (cond (ltb (length o) (p * key-long (board p n m w))) 9 0))
+    (keys-from p 0 (board p n m w) (λ seed. rule (board p n m w) seed) (lent a v cs ss ws)) r o z
+
+-- KEY LENGTH: 1 to 5
+unfoldable pub Long-says : (p n m w : ℕ) → Answer → Type 0
+Long-says p n m w r = says (board-refusal (board p n m w)) (key-long (board p n m w)) r
+
+-- rows of the board that a key names
+unfoldable pub key-rule : (key : List ℕ) → List ℕ → List ℕ
+key-rule ks seed = rule (head-in ks .board) seed
+
+-- OPEN ONE: the key's numbers, 14, 9
+unfoldable pub Open-one-says : (key : List ℕ) → (a : ℕ) → (r : ℕ) → (out out-now : List ℕ) → Type 0
+Open-one-says ks a r o z =
+    Put-says
+    (or-else (key-refusal ks) (cond (leb (head-in ks .board .n) a) 14 (cond (ltb (length o) (head-in ks .board .w)) 9 0)))
+    (opened (λ seed. key-rule ks seed) ks a) r o z
+
+-- OPEN ALL: the key's numbers, 9
+unfoldable pub Open-all-says : (key : List ℕ) → (r : ℕ) → (out out-now : List ℕ) → Type 0
+Open-all-says ks r o z =
+    Put-says (or-else (key-refusal ks) (cond (ltb (length o) (head-in ks .board .n * head-in ks .board .w)) 9 0)) (table (λ seed. key-rule ks seed) ks) r o z
+
+-- JOIN SHARES: 1, 4, 7, 9; "it writes the w-byte XOR"
+unfoldable pub joined-shares : (left w : ℕ) → List ℕ → List ℕ
+joined-shares zero w bs = zeros w
+joined-shares (suc k) w bs = xors (take w bs) (joined-shares k w (drop w bs))
+
+unfoldable pub shares-refusal : (p w long room : ℕ) → ℕ
+shares-refusal p w l o =
+    cond (not (leb 2 p && leb p 6)) 1
+    (cond (not (leb 1 w && leb w 16)) 4 (cond (not (eqb l (p * w))) 7 (cond (ltb o w) 9 0)))
+
+unfoldable pub Join-says : (p w : ℕ) → (shares : List ℕ) → (r : ℕ) → (out out-now : List ℕ) → Type 0
+Join-says p w bs r o z = Put-says (shares-refusal p w (length bs) (length o)) (joined-shares p w bs) r o z
+
+-- EXPAND: 7, 16; "it fills the output; length 0 is accepted"
+unfoldable pub Expand-says : (seed : List ℕ) → (r : ℕ) → (out out-now : List ℕ) → Type 0
+Expand-says bs r o z =
+    Put-says (cond (not (eqb (length bs) 32)) 7 (cond (ltb 4096 (length o)) 16 0)) (expand (length o) bs) r o z
+
+-- CHOOSE WIDTH: 1, 2
+unfoldable pub width-refusal : (p n : ℕ) → ℕ
+width-refusal p n = cond (not (leb 2 p && leb p 6)) 1 (cond (not (leb 1 n && leb n 65536)) 2 0)
+
+unfoldable pub Width-says : (p n : ℕ) → Answer → Type 0
+Width-says p n r = says (width-refusal p n) (width p n) r
+
+-- SENSOR POSITION: 17
+unfoldable pub Sensor-says : (s : ℕ) → Answer → Type 0
+Sensor-says s r = says (cond (leb 72 s) 17 0) (sensor-position s) r

@@ -1,0 +1,179 @@
+-- The four lanes laid one after another, and a fifth block behind them: their bytes, their blocks, and what these are for counters of one
+-- seed and for four seeds. Assumes nothing.
+use mathlib.Core.Path.{_≡_, refl, sym, ap, _∙_}
+use mathlib.Core.Bool.{Bool, true, false, cond}
+use mathlib.Core.List.{List, [], _++_, append-assoc, append-nil}
+use Prim.Native.Nat.{ℕ, zero, suc, _+_, _*_, _-_, _<_, _≤_}
+use native.Mathlib.Omega.{arith}
+use native.Mathlib.Nat.{add-zero, le-of-eq}
+use native.Mathlib.Numerals.{add-one}
+use lib.ListN.{length, take, drop, length-append, length-drop, drop-of-length-le}
+use lib.Seq.{drop-drop, length-take-le}
+use borrow.Rule.Slice.PartMut.{putMid}
+use Rattle.xor.specs.Xor.{zeros}
+use Rattle.chacha20.specs.Expand.{double-round, rounds, sums, low-bytes, seed-state, block, blocks}
+use Rattle.chacha20.specs.Rfc8439.{initial-state}
+use Rattle.chacha20.proofs.Parts.{part-written, length-low-bytes}
+use Rattle.chacha20.proofs.Rounds.{one-round-less, no-round-left}
+use Rattle.chacha20.proofs.Stream.{seed-state-is}
+use Rattle.chacha20_lanes.specs.Lanes.{every-fourth, lane-of, Side-by-side, lanes-bytes, block-of, lanes-blocks, first-blocks}
+use Rattle.chacha20_lanes.proofs.Places.{lane-of-sums}
+
+-- ROUNDS of all lanes
+
+-- each lane has some double rounds less to go
+abbrev pub Going : (done : ℕ) → (old new : List ℕ) → Type 0
+Going done old new = (length new ≡ 64) × ((m : ℕ) → m < 4 → rounds (10 - done) (lane-of m new) ≡ rounds 10 (lane-of m old))
+
+pub one-going : (done : ℕ) (old new next : List ℕ) → done < 10 → Going done old new → Side-by-side next (λ l. double-round (lane-of l new)) → Going (done + 1) old next
+one-going done old new next h went stepped =
+    (stepped .0, λ m m<. one-round-less done (lane-of m new) (lane-of m next) (lane-of m old) h (went .1 m m<) (stepped .1 m m<))
+
+pub all-gone : (done : ℕ) (old new : List ℕ) → 10 ≤ done → Going done old new → Side-by-side new (λ l. rounds 10 (lane-of l old))
+all-gone done old new h went = (went .0, λ m m<. no-round-left done (lane-of m new) (lane-of m old) h (went .1 m m<))
+
+-- and so has the fifth state, where there are five
+abbrev pub Fifth-going : (five : Bool) → (done : ℕ) → (old new : List ℕ) → Type 0
+Fifth-going five done old new = cond five (rounds (10 - done) new) new ≡ cond five (rounds 10 old) old
+
+module _ (five : Bool) (done : ℕ) (old new : List ℕ) (went : Fifth-going five done old new) where
+  pub fifth-stepped : (next : List ℕ) → done < 10 → five ≡ true → next ≡ double-round new → Fifth-going five (done + 1) old next
+  fifth-stepped next h there is = rw there (one-round-less done new next old h (rw there at went) is)
+
+  pub fifth-kept : (next : List ℕ) → five ≡ false → next ≡ new → Fifth-going five (done + 1) old next
+  fifth-kept next not-there is = rw (not-there, is) (rw not-there at went)
+
+pub fifth-gone : (five : Bool) (done : ℕ) (old new : List ℕ) → 10 ≤ done → Fifth-going five done old new → new ≡ cond five (rounds 10 old) old
+fifth-gone true done old new h went = no-round-left done new old h went
+fifth-gone false done old new h went = went
+
+-- BYTES of the lanes
+
+length-lane-of : (l : ℕ) (xs : List ℕ) → length (lane-of l xs) ≡ 16
+unfolding lane-of every-fourth
+length-lane-of l xs = refl
+
+length-lanes-bytes : (k : ℕ) (xs : List ℕ) → length (lanes-bytes k xs) ≡ 64 * k
+unfolding lanes-bytes
+length-lanes-bytes zero xs = refl
+length-lanes-bytes (suc k) xs =
+    length-append (lanes-bytes k xs) (low-bytes (lane-of k xs)) ∙ omega (arith, length-lanes-bytes k xs, length-low-bytes (lane-of k xs), length-lane-of k xs)
+
+module _ (states old out : List ℕ) (l : ℕ) (so-far : out ≡ lanes-bytes l states ++ drop (64 * l) old) where
+  -- a turn of the loop: the next lane's bytes are written
+  pub next-lane : (part : List ℕ) → part ≡ low-bytes (lane-of l states) →
+      putMid (64 * l) (64 * l + 64 - 64 * l) out part ≡ lanes-bytes (l + 1) states ++ drop (64 * (l + 1)) old
+  unfolding lanes-bytes
+  next-lane part part-is =
+      let next : 64 * (l + 1) ≡ 64 * l + 64 = omega arith in
+      part-written (lanes-bytes l states) old out part (64 * l) (64 * l + 64) (length-lanes-bytes l states) (omega arith) so-far
+      ∙ rw (part-is, next, add-one l)
+
+  -- after the last turn all lanes are written
+  pub all-lanes : l ≡ 4 → length old ≡ 256 → out ≡ lanes-bytes 4 states
+  all-lanes h whole =
+      so-far ∙ rw (drop-of-length-le old {i = 64 * l} (omega arith), h) (append-nil (lanes-bytes 4 states))
+
+-- BLOCKS of the lanes
+
+-- the bytes of the sums of what the rounds made and what they began with
+sums-laid : (k : ℕ) (initial states : List ℕ) → k ≤ 4 → length initial ≡ 64 → Side-by-side states (λ l. rounds 10 (lane-of l initial)) →
+    lanes-bytes k (sums states initial) ≡ lanes-blocks k initial
+unfolding lanes-bytes lanes-blocks block-of
+sums-laid zero initial states h long went = refl
+sums-laid (suc k) initial states h long went =
+    rw (sums-laid k initial states (omega arith) long went, lane-of-sums k states initial (went .0) long (omega arith), went .1 k (omega arith))
+
+-- THE FIFTH BLOCK, behind them where there are five
+
+module _ (five : Bool) where
+  pub fifth-room : (out : List ℕ) → five ≡ true → length out ≡ cond five 64 0 → length out ≡ 64
+  fifth-room out there long = rw there at long
+
+  pub fifth-put : (state fifth summed out : List ℕ) → five ≡ true → summed ≡ sums state fifth → out ≡ low-bytes summed → out ≡ cond five (low-bytes (sums state fifth)) []
+  fifth-put state fifth summed out there sums-is is = rw there (is ∙ ap (λ (l : List ℕ). low-bytes l) sums-is)
+
+  pub nothing-put : (bytes out : List ℕ) → five ≡ false → length out ≡ cond five 64 0 → out ≡ cond five bytes []
+  nothing-put bytes out not-there long = rw not-there (drop-of-length-le out {i = 0} (le-of-eq (rw not-there at long)))
+
+-- what is put is its block
+fifth-is : (five : Bool) (fifth state : List ℕ) → state ≡ cond five (rounds 10 fifth) fifth → cond five (low-bytes (sums state fifth)) [] ≡ cond five (block-of fifth) []
+unfolding block-of
+fifth-is true fifth state is = ap (λ (l : List ℕ). low-bytes (sums l fifth)) is
+fifth-is false fifth state is = refl
+
+-- the lanes' blocks are put, and then what comes behind them
+pub blocks-laid : (five : Bool) (initial fifth states state summed front old rest : List ℕ) → length initial ≡ 64 →
+    (Side-by-side states (λ l. rounds 10 (lane-of l initial))) × (state ≡ cond five (rounds 10 fifth) fifth) → summed ≡ sums states initial → front ≡ lanes-bytes 4 summed →
+    rest ≡ cond five (low-bytes (sums state fifth)) [] → 256 ≤ length old →
+    putMid 256 (length (front ++ drop 256 old) - 256) (front ++ drop 256 old) rest ≡ lanes-blocks 4 initial ++ cond five (block-of fifth) []
+blocks-laid five initial fifth states state summed front old rest long went sums-is front-is rest-is room =
+    let front-long : length front ≡ 256 = ap (λ (l : List ℕ). length l) front-is ∙ length-lanes-bytes 4 summed in
+    let lanes-is : front ≡ lanes-blocks 4 initial = front-is ∙ rw sums-is (sums-laid 4 initial states (omega arith) long (went .0)) in
+    let all : length (front ++ drop 256 old) ≡ length old = omega (arith, length-append front (drop 256 old), length-drop 256 old, front-long) in
+    part-written front old (front ++ drop 256 old) rest 256 (length (front ++ drop 256 old)) front-long (omega arith) refl
+    ∙ rw (drop-of-length-le old {i = length (front ++ drop 256 old)} (omega arith), append-nil (front ++ rest))
+    (ap (λ (l : List ℕ). l ++ rest) lanes-is ∙ ap (λ (l : List ℕ). lanes-blocks 4 initial ++ l) (rest-is ∙ fifth-is five fifth state (went .1)))
+
+block-is : (seed : List ℕ) (c : ℕ) → block-of (seed-state seed c) ≡ block seed c
+unfolding block-of block
+block-is seed c = refl
+
+-- COUNTERS of one seed
+
+-- the state of a counter
+pub counter-opened : (counter next l : ℕ) (seed words : List ℕ) → next ≡ counter + l → words ≡ initial-state seed next (zeros 12) → words ≡ seed-state seed (counter + l)
+counter-opened counter next l seed words counts is = is ∙ rw counts (sym (seed-state-is seed (counter + l)))
+
+-- one block more
+blocks-snoc : (k c : ℕ) (seed : List ℕ) → blocks (suc k) c seed ≡ blocks k c seed ++ block seed (c + k)
+unfolding blocks
+blocks-snoc zero c seed = rw (add-zero c) (append-nil (block seed c))
+blocks-snoc (suc k) c seed =
+    let counter : suc c + k ≡ c + suc k = omega arith in
+    ap (λ (l : List ℕ). block seed c ++ l) (blocks-snoc k (suc c) seed) ∙ rw counter (sym (append-assoc (block seed c) (blocks k (suc c) seed) (block seed (c + suc k))))
+
+counters-laid : (k c : ℕ) (seed initial : List ℕ) → k ≤ 4 → Side-by-side initial (λ l. seed-state seed (c + l)) → lanes-blocks k initial ≡ blocks k c seed
+unfolding lanes-blocks blocks
+counters-laid zero c seed initial h opened = refl
+counters-laid (suc k) c seed initial h opened =
+    rw (counters-laid k c seed initial (omega arith) opened, opened .1 k (omega arith), block-is seed (c + k)) (sym (blocks-snoc k c seed))
+
+-- and where there are five, the fifth has the counter behind theirs
+pub counters-made : (five : Bool) (c next : ℕ) (seed initial fifth out : List ℕ) → Side-by-side initial (λ l. seed-state seed (c + l)) →
+    fifth ≡ initial-state seed next (zeros 12) → next ≡ c + 4 → out ≡ lanes-blocks 4 initial ++ cond five (block-of fifth) [] → out ≡ blocks (cond five 5 4) c seed
+counters-made true c next seed initial fifth out opened fifth-opened counts is =
+    is ∙ rw (counters-laid 4 c seed initial (omega arith) opened, counter-opened c next 4 seed fifth counts fifth-opened, block-is seed (c + 4)) (sym (blocks-snoc 4 c seed))
+counters-made false c next seed initial fifth out opened fifth-opened counts is =
+    is ∙ append-nil (lanes-blocks 4 initial) ∙ counters-laid 4 c seed initial (omega arith) opened
+
+-- FOUR SEEDS
+
+module _ (ss : List ℕ) (l : ℕ) where
+  part : 32 * l + 32 - 32 * l ≡ 32
+  part = omega arith
+
+  -- a seed as the code cuts it out
+  pub seed-long : length ss ≡ 128 → l < 4 → length (take (32 * l + 32 - 32 * l) (drop (32 * l) ss)) ≡ 32
+  seed-long long h = rw part (length-take-le 32 (drop (32 * l) ss) (omega (arith, length-drop (32 * l) ss)))
+
+  -- its state
+  pub seed-opened : (words : List ℕ) → words ≡ initial-state (take (32 * l + 32 - 32 * l) (drop (32 * l) ss)) 0 (zeros 12) → words ≡ seed-state (take 32 (drop (32 * l) ss)) 0
+  seed-opened words is = is ∙ rw part (sym (seed-state-is (take 32 (drop (32 * l) ss)) 0))
+
+first-snoc : (k : ℕ) (ss : List ℕ) → first-blocks (suc k) ss ≡ first-blocks k ss ++ block (take 32 (drop (32 * k) ss)) 0
+unfolding first-blocks
+first-snoc zero ss = append-nil (block (take 32 ss) 0)
+first-snoc (suc k) ss =
+    let place : 32 + 32 * k ≡ 32 * suc k = omega arith in
+    ap (λ (l : List ℕ). block (take 32 ss) 0 ++ l) (first-snoc k (drop 32 ss))
+    ∙ rw (drop-drop (32 * k) 32 ss, place) (sym (append-assoc (block (take 32 ss) 0) (first-blocks k (drop 32 ss)) (block (take 32 (drop (32 * suc k) ss)) 0)))
+
+seeds-laid : (k : ℕ) (ss initial : List ℕ) → k ≤ 4 → Side-by-side initial (λ l. seed-state (take 32 (drop (32 * l) ss)) 0) → lanes-blocks k initial ≡ first-blocks k ss
+unfolding lanes-blocks first-blocks
+seeds-laid zero ss initial h opened = refl
+seeds-laid (suc k) ss initial h opened =
+    rw (seeds-laid k ss initial (omega arith) opened, opened .1 k (omega arith), block-is (take 32 (drop (32 * k) ss)) 0) (sym (first-snoc k ss))
+
+pub four-seeds : (ss initial out : List ℕ) → Side-by-side initial (λ l. seed-state (take 32 (drop (32 * l) ss)) 0) → out ≡ lanes-blocks 4 initial ++ [] → out ≡ first-blocks 4 ss
+four-seeds ss initial out opened is = is ∙ append-nil (lanes-blocks 4 initial) ∙ seeds-laid 4 ss initial (omega arith) opened

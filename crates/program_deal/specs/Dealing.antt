@@ -1,0 +1,88 @@
+-- The dealing program as a function from the input's bytes to the output's: document 01's "Two programs", whose sentences are quoted.
+-- Assumes nothing: these are definitions.
+use mathlib.Core.Path.{_≡_}
+use mathlib.Core.Bool.{Bool, _&&_, _||_, not, cond}
+use mathlib.Core.List.{List}
+use Prim.Native.Nat.{ℕ, _+_, _*_, _-_}
+use lib.Dec.{ltb, leb, eqb}
+use lib.ListN.{length, take, drop}
+use Rattle.grid.specs.Grid.{Board, board, board-refusal, columns, grid-rows, row-long, arrays-good}
+use Rattle.keys.specs.Keys.{number-in, Lent, key-long, keys-from}
+use Rattle.call_answers.specs.Answers.{or-else, lent, rule, Deal-says}
+use Rattle.text.specs.Text.{refused-line}
+use Rattle.program_output.specs.Output.{most-bytes, read-bytes, Writes, Of-read, Enough, Fits}
+
+-- THE DEALING PROGRAM "reads p, N, μ, w, point in the groups above, then value, arrays, seeds, words"
+pub record Input : Type 0 where
+  pub good : Bool
+  pub board : Board
+  pub point : ℕ
+  pub rest : List ℕ
+
+unfoldable pub input-in : List ℕ → Input
+input-in bs =
+    let p = number-in bs in
+    let n = number-in (p .rest) in
+    let m = number-in (n .rest) in
+    let w = number-in (m .rest) in
+    let a = number-in (w .rest) in
+    record {
+      good = (p .good && n .good) && (m .good && (w .good && a .good));
+      board = board (p .value) (n .value) (m .value) (w .value);
+      point = a .value;
+      rest = a .rest;
+    }
+
+-- how many bytes are asked for behind the five numbers: value, arrays, seeds, words
+unfoldable pub asked-bytes : Board → ℕ
+asked-bytes b =
+    let cells = grid-rows b * columns b in b .w + cells + 32 * cells + (columns b - 1) * row-long b
+
+-- the lent parts, one behind another
+unfoldable pub lent-in : Board → (point : ℕ) → (rest : List ℕ) → Lent
+lent-in b a bs =
+    let cells = grid-rows b * columns b in
+    lent a (take (b .w) bs) (take cells (drop (b .w) bs)) (take (32 * cells) (drop (b .w + cells) bs)) (drop (b .w + cells + 32 * cells) bs)
+
+-- the numbers that the lengths and the five numbers decide: 1 to 5, 6, and "7 on the whole input"
+unfoldable pub asked-refusal : Board → (point whole rest : ℕ) → ℕ
+asked-refusal b a whole rest =
+    cond (not (eqb (board-refusal b) 0)) (board-refusal b)
+    (cond (leb (b .n) a) 6 (cond (ltb most-bytes whole || not (eqb rest (asked-bytes b))) 7 0))
+
+-- those that the lent parts decide: 8, 9
+unfoldable pub lent-refusal : Board → Lent → ℕ
+lent-refusal b l =
+    cond (not (arrays-good (grid-rows b) 0 b (l .point) (l .arrays))) 8 (cond (ltb most-bytes (b .p * key-long b)) 9 0)
+
+-- "The dealing program checks 10 first, then as Deal": 10, 1 to 5, 6, 7, 8, 9
+unfoldable pub dealing-refusal : (input : List ℕ) → ℕ
+dealing-refusal bs =
+    let i = input-in bs in
+    cond (not (i .good)) 10
+    (or-else (asked-refusal (i .board) (i .point) (length bs) (length (i .rest))) (lent-refusal (i .board) (lent-in (i .board) (i .point) (i .rest))))
+
+-- "writes the keys"
+unfoldable pub keys-of : Board → Lent → List ℕ
+keys-of b l = keys-from (b .p) 0 b (λ seed. rule b seed) l
+
+-- what it writes: the keys, or the line that refuses
+unfoldable pub dealing-output : (input : List ℕ) → List ℕ
+dealing-output bs =
+    let i = input-in bs in
+    cond (eqb (dealing-refusal bs) 0) (keys-of (i .board) (lent-in (i .board) (i .point) (i .rest))) (refused-line (dealing-refusal bs))
+
+-- WHAT MAKES ITS BUFFERS RIGHT: 65,537 bytes of an input are enough, and what it writes fits into 65,536
+unfoldable pub Dealing-whole : Type 0
+Dealing-whole = Enough read-bytes dealing-output × Fits most-bytes dealing-output
+
+-- of a buffer that an input was read into: the output of that input is written; with a count above the buffer's length, nothing is
+unfoldable pub Deals-read : (buffer : List ℕ) → (count r : ℕ) → (out out-now : List ℕ) → Type 0
+Deals-read xs n r o z = Of-read xs n (λ bs. Writes (dealing-output bs) r o z) ((r ≡ 0) × (z ≡ o))
+
+-- its parts: what it writes where the five numbers and the lengths are in order, and what Deal says of lent parts
+unfoldable pub dealt-output : Board → Lent → List ℕ
+dealt-output b l = cond (eqb (lent-refusal b l) 0) (keys-of b l) (refused-line (lent-refusal b l))
+
+unfoldable pub Deals : Board → Lent → (r : ℕ) → (out out-now : List ℕ) → Type 0
+Deals b l r o z = Deal-says (b .p) (b .n) (b .wide) (b .w) (l .point) (l .value) (l .arrays) (l .seeds) (l .words) r o z
