@@ -119,7 +119,7 @@ fn double_round(state: [u32; 16]) -> [u32; 16]
 }
 
 // The same state, made anew of its words: so the compiler keeps each word in a register of its own.
-pub fn word_by_word(state: [u32; 16]) -> [u32; 16]
+fn word_by_word(state: [u32; 16]) -> [u32; 16]
     ensures { λ r. ⌜ r ≡ state ⌝ }
 {
     [

@@ -1,12 +1,10 @@
-// Blocks of ChaCha20 side by side: four counters of one seed and, where it is asked for, a fifth, or four seeds at counter 0. The lanes are
-// opened, go through the rounds together and are serialized one after another. Assumes nothing.
+// Blocks of ChaCha20 side by side: four counters of one seed, or four seeds at counter 0. The lanes are opened, go through the rounds
+// together and are serialized one after another. Assumes nothing.
 ghost use mathlib.Core.Path.{_≡_};
-ghost use mathlib.Core.Bool.{cond};
-ghost use mathlib.Core.List.{[], _++_};
 ghost use Prim.Native.Nat.{_+_, _*_, _^_, _<_};
 ghost use lib.ListN.{length, take, drop};
-ghost use Rattle.chacha20.specs.Expand.{sums, low-bytes, seed-state, blocks};
-ghost use Rattle.chacha20_lanes.specs.Lanes.{lane-of, Side-by-side, lanes-bytes, block-of, lanes-blocks, first-blocks};
+ghost use Rattle.chacha20.specs.Expand.{seed-state, blocks};
+ghost use Rattle.chacha20_lanes.specs.Lanes.{Side-by-side, lanes-bytes, lanes-blocks, first-blocks};
 use chacha20_lanes::lane;
 use chacha20_lanes::put_lane;
 use chacha20_lanes::twenty_rounds;
@@ -26,28 +24,15 @@ fn serialize(states: &[u32], out: &mut [u8])
     }
 }
 
-// The fifth block, where there are five: the input words added to the output words, serialized.
-fn put_fifth(state: [u32; 16], fifth: [u32; 16], five: bool, out: &mut [u8])
-    requires { ⌜ length (now out) ≡ cond five 64 0 ⌝ }
-    ensures { λ r. ⌜ now (out .exit) ≡ cond five (low-bytes (sums state fifth)) [] ⌝ }
-{
-    if five {
-        let mut summed = state;
-        chacha20_words::add_into(&mut summed, &fifth);
-        chacha20_words::serialize(summed, out);
-    }
-}
-
-// The blocks of four lanes, one after another, and behind them the fifth's where there are five.
-fn blocks_beside(initial: [u32; 64], fifth: [u32; 16], five: bool, out: &mut [u8])
-    requires { ⌜ length (now out) ≡ 256 + cond five 64 0 ⌝ }
-    ensures { λ r. ⌜ now (out .exit) ≡ lanes-blocks 4 initial ++ cond five (block-of fifth) [] ⌝ }
+// The blocks of four lanes, one after another.
+fn blocks_beside(initial: [u32; 64], out: &mut [u8])
+    requires { ⌜ length (now out) ≡ 256 ⌝ }
+    ensures { λ r. ⌜ now (out .exit) ≡ lanes-blocks 4 initial ⌝ }
 {
     let mut states = initial;
-    let state = twenty_rounds(&mut states, fifth, five);
+    twenty_rounds(&mut states);
     chacha20_words::add_into(&mut states, &initial);
-    serialize(&states, &mut out[..256]);
-    put_fifth(state, fifth, five, &mut out[256..]);
+    serialize(&states, out);
 }
 
 // Four counters of one seed.
@@ -82,32 +67,14 @@ fn open_seeds(seeds: &[u8], states: &mut [u32])
     }
 }
 
-// Four blocks of one seed, or five, from the block of `counter` on. `open_counters` has this one caller, in which the compiler unfolds it.
-fn counters(seed: &[u8], counter: u32, five: bool, out: &mut [u8])
-    requires { ⌜ (length (now seed) ≡ 32) × (counter + 4 < 2 ^ 32) × (length (now out) ≡ 256 + cond five 64 0) ⌝ }
-    ensures { λ r. ⌜ now (out .exit) ≡ blocks (cond five 5 4) counter (now (seed .entry)) ⌝ }
-{
-    let mut initial = [0u32; 64];
-    open_counters(seed, counter, &mut initial);
-    let nonce = [0u8; 12];
-    let fifth = chacha20_words::initial_state(seed, counter + 4, &nonce);
-    blocks_beside(initial, fifth, five, out);
-}
-
-// Four blocks of one seed, from the block of `counter` on.
+// Four blocks of one seed, from the block of `counter` on. `open_counters` has this one caller, in which the compiler unfolds it.
 pub fn four_counters(seed: &[u8], counter: u32, out: &mut [u8])
     requires { ⌜ (length (now seed) ≡ 32) × (counter + 4 < 2 ^ 32) × (length (now out) ≡ 256) ⌝ }
     ensures { λ r. ⌜ now (out .exit) ≡ blocks 4 counter (now (seed .entry)) ⌝ }
 {
-    counters(seed, counter, false, out);
-}
-
-// Five blocks of one seed, from the block of `counter` on.
-pub fn five_counters(seed: &[u8], counter: u32, out: &mut [u8])
-    requires { ⌜ (length (now seed) ≡ 32) × (counter + 4 < 2 ^ 32) × (length (now out) ≡ 320) ⌝ }
-    ensures { λ r. ⌜ now (out .exit) ≡ blocks 5 counter (now (seed .entry)) ⌝ }
-{
-    counters(seed, counter, true, out);
+    let mut initial = [0u32; 64];
+    open_counters(seed, counter, &mut initial);
+    blocks_beside(initial, out);
 }
 
 // The first blocks of four seeds that stand one after another.
@@ -117,6 +84,5 @@ pub fn four_seeds(seeds: &[u8], out: &mut [u8])
 {
     let mut initial = [0u32; 64];
     open_seeds(seeds, &mut initial);
-    let fifth = [0u32; 16];
-    blocks_beside(initial, fifth, false, out);
+    blocks_beside(initial, out);
 }

@@ -1,11 +1,9 @@
--- The four lanes laid one after another, and a fifth block behind them: their bytes, their blocks, and what these are for counters of one
--- seed and for four seeds. Assumes nothing.
+-- The four lanes laid one after another: their bytes, their blocks, and what these are for counters of one seed and for four seeds. Assumes nothing.
 use mathlib.Core.Path.{_≡_, refl, sym, ap, _∙_}
-use mathlib.Core.Bool.{Bool, true, false, cond}
-use mathlib.Core.List.{List, [], _++_, append-assoc, append-nil}
+use mathlib.Core.List.{List, _++_, append-assoc, append-nil}
 use Prim.Native.Nat.{ℕ, zero, suc, _+_, _*_, _-_, _<_, _≤_}
 use native.Mathlib.Omega.{arith}
-use native.Mathlib.Nat.{add-zero, le-of-eq}
+use native.Mathlib.Nat.{add-zero}
 use native.Mathlib.Numerals.{add-one}
 use lib.ListN.{length, take, drop, length-append, length-drop, drop-of-length-le}
 use lib.Seq.{drop-drop, length-take-le}
@@ -31,21 +29,6 @@ one-going done old new next h went stepped =
 
 pub all-gone : (done : ℕ) (old new : List ℕ) → 10 ≤ done → Going done old new → Side-by-side new (λ l. rounds 10 (lane-of l old))
 all-gone done old new h went = (went .0, λ m m<. no-round-left done (lane-of m new) (lane-of m old) h (went .1 m m<))
-
--- and so has the fifth state, where there are five
-abbrev pub Fifth-going : (five : Bool) → (done : ℕ) → (old new : List ℕ) → Type 0
-Fifth-going five done old new = cond five (rounds (10 - done) new) new ≡ cond five (rounds 10 old) old
-
-module _ (five : Bool) (done : ℕ) (old new : List ℕ) (went : Fifth-going five done old new) where
-  pub fifth-stepped : (next : List ℕ) → done < 10 → five ≡ true → next ≡ double-round new → Fifth-going five (done + 1) old next
-  fifth-stepped next h there is = rw there (one-round-less done new next old h (rw there at went) is)
-
-  pub fifth-kept : (next : List ℕ) → five ≡ false → next ≡ new → Fifth-going five (done + 1) old next
-  fifth-kept next not-there is = rw (not-there, is) (rw not-there at went)
-
-pub fifth-gone : (five : Bool) (done : ℕ) (old new : List ℕ) → 10 ≤ done → Fifth-going five done old new → new ≡ cond five (rounds 10 old) old
-fifth-gone true done old new h went = no-round-left done new old h went
-fifth-gone false done old new h went = went
 
 -- BYTES of the lanes
 
@@ -84,36 +67,10 @@ sums-laid zero initial states h long went = refl
 sums-laid (suc k) initial states h long went =
     rw (sums-laid k initial states (omega arith) long went, lane-of-sums k states initial (went .0) long (omega arith), went .1 k (omega arith))
 
--- THE FIFTH BLOCK, behind them where there are five
-
-module _ (five : Bool) where
-  pub fifth-room : (out : List ℕ) → five ≡ true → length out ≡ cond five 64 0 → length out ≡ 64
-  fifth-room out there long = rw there at long
-
-  pub fifth-put : (state fifth summed out : List ℕ) → five ≡ true → summed ≡ sums state fifth → out ≡ low-bytes summed → out ≡ cond five (low-bytes (sums state fifth)) []
-  fifth-put state fifth summed out there sums-is is = rw there (is ∙ ap (λ (l : List ℕ). low-bytes l) sums-is)
-
-  pub nothing-put : (bytes out : List ℕ) → five ≡ false → length out ≡ cond five 64 0 → out ≡ cond five bytes []
-  nothing-put bytes out not-there long = rw not-there (drop-of-length-le out {i = 0} (le-of-eq (rw not-there at long)))
-
--- what is put is its block
-fifth-is : (five : Bool) (fifth state : List ℕ) → state ≡ cond five (rounds 10 fifth) fifth → cond five (low-bytes (sums state fifth)) [] ≡ cond five (block-of fifth) []
-unfolding block-of
-fifth-is true fifth state is = ap (λ (l : List ℕ). low-bytes (sums l fifth)) is
-fifth-is false fifth state is = refl
-
--- the lanes' blocks are put, and then what comes behind them
-pub blocks-laid : (five : Bool) (initial fifth states state summed front old rest : List ℕ) → length initial ≡ 64 →
-    (Side-by-side states (λ l. rounds 10 (lane-of l initial))) × (state ≡ cond five (rounds 10 fifth) fifth) → summed ≡ sums states initial → front ≡ lanes-bytes 4 summed →
-    rest ≡ cond five (low-bytes (sums state fifth)) [] → 256 ≤ length old →
-    putMid 256 (length (front ++ drop 256 old) - 256) (front ++ drop 256 old) rest ≡ lanes-blocks 4 initial ++ cond five (block-of fifth) []
-blocks-laid five initial fifth states state summed front old rest long went sums-is front-is rest-is room =
-    let front-long : length front ≡ 256 = ap (λ (l : List ℕ). length l) front-is ∙ length-lanes-bytes 4 summed in
-    let lanes-is : front ≡ lanes-blocks 4 initial = front-is ∙ rw sums-is (sums-laid 4 initial states (omega arith) long (went .0)) in
-    let all : length (front ++ drop 256 old) ≡ length old = omega (arith, length-append front (drop 256 old), length-drop 256 old, front-long) in
-    part-written front old (front ++ drop 256 old) rest 256 (length (front ++ drop 256 old)) front-long (omega arith) refl
-    ∙ rw (drop-of-length-le old {i = length (front ++ drop 256 old)} (omega arith), append-nil (front ++ rest))
-    (ap (λ (l : List ℕ). l ++ rest) lanes-is ∙ ap (λ (l : List ℕ). lanes-blocks 4 initial ++ l) (rest-is ∙ fifth-is five fifth state (went .1)))
+-- the steps from the rounds on: the sums, and their bytes
+pub blocks-laid : (initial states summed out : List ℕ) → length initial ≡ 64 → Side-by-side states (λ l. rounds 10 (lane-of l initial)) → summed ≡ sums states initial →
+    out ≡ lanes-bytes 4 summed → out ≡ lanes-blocks 4 initial
+blocks-laid initial states summed out long went sums-is is = is ∙ rw sums-is (sums-laid 4 initial states (omega arith) long went)
 
 block-is : (seed : List ℕ) (c : ℕ) → block-of (seed-state seed c) ≡ block seed c
 unfolding block-of block
@@ -139,13 +96,8 @@ counters-laid zero c seed initial h opened = refl
 counters-laid (suc k) c seed initial h opened =
     rw (counters-laid k c seed initial (omega arith) opened, opened .1 k (omega arith), block-is seed (c + k)) (sym (blocks-snoc k c seed))
 
--- and where there are five, the fifth has the counter behind theirs
-pub counters-made : (five : Bool) (c next : ℕ) (seed initial fifth out : List ℕ) → Side-by-side initial (λ l. seed-state seed (c + l)) →
-    fifth ≡ initial-state seed next (zeros 12) → next ≡ c + 4 → out ≡ lanes-blocks 4 initial ++ cond five (block-of fifth) [] → out ≡ blocks (cond five 5 4) c seed
-counters-made true c next seed initial fifth out opened fifth-opened counts is =
-    is ∙ rw (counters-laid 4 c seed initial (omega arith) opened, counter-opened c next 4 seed fifth counts fifth-opened, block-is seed (c + 4)) (sym (blocks-snoc 4 c seed))
-counters-made false c next seed initial fifth out opened fifth-opened counts is =
-    is ∙ append-nil (lanes-blocks 4 initial) ∙ counters-laid 4 c seed initial (omega arith) opened
+pub four-counters : (c : ℕ) (seed initial out : List ℕ) → Side-by-side initial (λ l. seed-state seed (c + l)) → out ≡ lanes-blocks 4 initial → out ≡ blocks 4 c seed
+four-counters c seed initial out opened is = is ∙ counters-laid 4 c seed initial (omega arith) opened
 
 -- FOUR SEEDS
 
@@ -175,5 +127,5 @@ seeds-laid zero ss initial h opened = refl
 seeds-laid (suc k) ss initial h opened =
     rw (seeds-laid k ss initial (omega arith) opened, opened .1 k (omega arith), block-is (take 32 (drop (32 * k) ss)) 0) (sym (first-snoc k ss))
 
-pub four-seeds : (ss initial out : List ℕ) → Side-by-side initial (λ l. seed-state (take 32 (drop (32 * l) ss)) 0) → out ≡ lanes-blocks 4 initial ++ [] → out ≡ first-blocks 4 ss
-four-seeds ss initial out opened is = is ∙ append-nil (lanes-blocks 4 initial) ∙ seeds-laid 4 ss initial (omega arith) opened
+pub four-seeds : (ss initial out : List ℕ) → Side-by-side initial (λ l. seed-state (take 32 (drop (32 * l) ss)) 0) → out ≡ lanes-blocks 4 initial → out ≡ first-blocks 4 ss
+four-seeds ss initial out opened is = is ∙ seeds-laid 4 ss initial (omega arith) opened

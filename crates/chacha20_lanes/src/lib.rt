@@ -1,9 +1,7 @@
 // Four states of ChaCha20 side by side, so that the compiler fills its vector registers. They stand in sixty-four words, word w of lane l at
 // 4·w + l. A lane is taken out, goes through a double round as an ordinary state and is put back, in a loop over the lanes that becomes one
-// pass over vectors. Where a fifth block is asked for, its state goes through the rounds in the same loop, in the ordinary registers, which
-// stand idle meanwhile. Assumes nothing.
+// pass over vectors. Assumes nothing.
 ghost use mathlib.Core.Path.{_≡_};
-ghost use mathlib.Core.Bool.{cond};
 ghost use Prim.Native.Nat.{_<_};
 ghost use lib.ListN.{length};
 ghost use Rattle.chacha20.specs.Expand.{double-round, rounds};
@@ -74,44 +72,14 @@ fn double_rounds(states: &mut [u32])
     }
 }
 
-// A double round of the fifth state. The body is that of a lane's, so that this one too has one caller, in which the compiler unfolds it.
-fn fifth_double_round(state: [u32; 16]) -> [u32; 16]
-    ensures { λ r. ⌜ r ≡ double-round state ⌝ }
-{
-    let table = chacha20::QUARTER_ROUNDS;
-    let a = table[0];
-    let b = table[1];
-    let c = table[2];
-    let d = table[3];
-    let first = chacha20::odd_lines(state, a, b, c, d, 16);
-    let second = chacha20::even_lines(first, a, b, c, d, 12);
-    let third = chacha20::odd_lines(second, a, b, c, d, 8);
-    let fourth = chacha20::even_lines(third, a, b, c, d, 7);
-    let p = table[4];
-    let q = table[5];
-    let r = table[6];
-    let s = table[7];
-    let fifth = chacha20::odd_lines(fourth, p, q, r, s, 16);
-    let sixth = chacha20::even_lines(fifth, p, q, r, s, 12);
-    let seventh = chacha20::odd_lines(sixth, p, q, r, s, 8);
-    chacha20::even_lines(seventh, p, q, r, s, 7)
-}
-
-// Twenty rounds of each lane, and of the fifth state where there are five.
-pub fn twenty_rounds(states: &mut [u32], fifth: [u32; 16], five: bool) -> [u32; 16]
+// Twenty rounds of each lane.
+pub fn twenty_rounds(states: &mut [u32])
     requires { ⌜ length (now states) ≡ 64 ⌝ }
-    ensures { λ r. ⌜ (Side-by-side (now (states .exit)) (λ l. rounds 10 (lane-of l (now (states .entry))))) × (r ≡ cond five (rounds 10 fifth) fifth) ⌝ }
+    ensures { λ r. ⌜ Side-by-side (now (states .exit)) (λ l. rounds 10 (lane-of l (now (states .entry)))) ⌝ }
 {
-    let mut state = fifth;
     let mut done: usize = 0;
     while done < 10 {
         double_rounds(states);
-        if five {
-            let stepped = fifth_double_round(state);
-            let next = chacha20::word_by_word(stepped);
-            state = next;
-        }
         done += 1;
     }
-    state
 }

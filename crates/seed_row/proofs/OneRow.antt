@@ -2,7 +2,7 @@
 -- it was. Assumes nothing.
 use mathlib.Core.Path.{_≡_, refl, sym, _∙_, subst}
 use mathlib.Core.List.{List, _++_, append-nil}
-use Prim.Native.Nat.{ℕ, _+_, _*_, _-_, _<_, _≤_}
+use Prim.Native.Nat.{ℕ, _+_, _*_, _-_, _<_, _≤_, min}
 use native.Mathlib.Omega.{arith}
 use native.Mathlib.Nat.{zero-add}
 use lib.ListN.{length, take, drop, drop-of-length-le}
@@ -13,34 +13,22 @@ use Rattle.xor.proofs.Laws.{take-xors, drop-xors, length-xors}
 use Rattle.chacha20.specs.Expand.{block, blocks, expand}
 use Rattle.chacha20.specs.Rfc8439.{chacha20-block, key-stream}
 use Rattle.chacha20.proofs.Parts.{part-written}
-use Rattle.chacha20.proofs.Stream.{blocks-is, block-is, expand-is, word-stream, word-expand, key-stream-of, take-key-stream, drop-key-stream}
+use Rattle.chacha20.proofs.Stream.{blocks-is, block-is, expand-is, word-block, word-expand, key-stream-of, take-key-stream, drop-key-stream}
 use Rattle.chacha20_blocks.proofs.Written.{key-stream-short}
-use Rattle.seed_row.specs.OneRow.{Next-end}
 
--- the front of some blocks
-pub front-of : (k n c : ℕ) (seed made : List ℕ) → n ≤ 64 * k → made ≡ blocks k c seed → take n made ≡ key-stream n c seed (zeros 12)
-front-of k n c seed made h is = rw (is, blocks-is k c seed) (key-stream-of n k c seed (zeros 12) h)
+-- the front of four blocks
+pub front-of-four : (n c : ℕ) (seed made : List ℕ) → n ≤ 256 → made ≡ blocks 4 c seed → take n made ≡ key-stream n c seed (zeros 12)
+front-of-four n c seed made h is = rw (is, blocks-is 4 c seed) (key-stream-of n 4 c seed (zeros 12) h)
 
-blocks-long : (k c : ℕ) (seed made : List ℕ) → made ≡ blocks k c seed → length made ≡ 64 * k
-blocks-long k c seed made is = rw (is, blocks-is k c seed) (word-stream k c seed (zeros 12) .long)
-
--- the same with something behind them
-pub front-of-four : (n c : ℕ) (seed made rest : List ℕ) → n ≤ 256 → made ≡ blocks 4 c seed → take n (made ++ rest) ≡ key-stream n c seed (zeros 12)
-front-of-four n c seed made rest h is =
-    take-append-le n made rest (omega (arith, blocks-long 4 c seed made is)) ∙ front-of 4 n c seed made h is
-
--- all of four blocks
-pub four-whole : (n c : ℕ) (seed made : List ℕ) → n ≡ 256 → made ≡ blocks 4 c seed → made ≡ key-stream n c seed (zeros 12)
-four-whole n c seed made h is =
-    sym (take-all n made (omega (arith, blocks-long 4 c seed made is))) ∙ front-of 4 n c seed made (omega arith) is
-
--- the front of one block
-pub front-of-one : (n c : ℕ) (seed made : List ℕ) → n ≤ 64 → made ≡ chacha20-block seed c (zeros 12) → take n made ≡ key-stream n c seed (zeros 12)
-front-of-one n c seed made h is = rw is (sym (key-stream-short n c seed (zeros 12) h))
+-- the front of one block, with something behind it
+pub front-of-one : (n c : ℕ) (seed made rest : List ℕ) → n ≤ 64 → made ≡ chacha20-block seed c (zeros 12) → take n (made ++ rest) ≡ key-stream n c seed (zeros 12)
+front-of-one n c seed made rest h is =
+    let nonce = zeros 12 in
+    rw is (take-append-le n (chacha20-block seed c nonce) rest (omega (arith, word-block seed nonce c .long)) ∙ sym (key-stream-short n c seed nonce h))
 
 -- a row of at most a block
 pub short-row : (n : ℕ) (seed : List ℕ) → n ≤ 64 → take n (block seed 0) ≡ expand n seed
-short-row n seed h = rw (expand-is n seed) (front-of-one n 0 seed (block seed 0) h (block-is seed 0))
+short-row n seed h = rw (expand-is n seed, block-is seed 0) (sym (key-stream-short n 0 seed (zeros 12) h))
 
 -- bytes from a block's start on are those of the stream from its counter on
 stream-part : (rest m c : ℕ) (seed : List ℕ) → m ≤ rest → key-stream m c seed (zeros 12) ≡ take m (drop (64 * c) (expand (64 * c + rest) seed))
@@ -82,32 +70,21 @@ module _ (seed old out : List ℕ) (done counter : ℕ) (w : Xored seed old out 
   abbrev pub Part : (end : ℕ) → (part : List ℕ) → Type 0
   Part end part = part ≡ xors (midOf done (end - done) out) (key-stream (length (midOf done (end - done) out)) counter seed (zeros 12))
 
-  -- with that the bytes up to `end` are XORed
-  written : (end : ℕ) (part : List ℕ) → done < length old → done ≤ end → end ≤ length old → Part end part → putMid done (end - done) out part ≡ take end (xors old row) ++ drop end old
-  written end part left behind within part-is =
+  -- a turn of the loop: with four blocks, or what is left of the row, the bytes up to `end` are XORed
+  pub next-part : (end next : ℕ) (part : List ℕ) → next ≡ counter + 4 → done < length out → end ≡ min (done + 256) (length out) →
+      length part ≡ length (midOf done (end - done) out) → Part end part → Xored seed old (putMid done (end - done) out part) end next
+  next-part end next part next-is room end-is long part-is =
       let m = end - done in
       let same = w .same in
-      let start = w .place left in
+      let start = w .place (omega arith) in
       let all : done + m ≡ end = omega arith in
-      let long : length (midOf done m out) ≡ m = mid-len done end out (omega arith) in
-      let new-part : part ≡ take m (drop done (xors old row)) = part-is ∙ rw (long, grid-row-part (length old) done m counter seed start (omega arith), next-old) (sym (rw (drop-xors done old row) (take-xors m (drop done old) (drop done row)))) in
-      part-written (take done (xors old row)) old out part done end done-long behind (w .so-far)
-      ∙ rw new-part (rw (sym (take-add done m (xors old row)), all))
-
-  -- a turn of the loop: five blocks, or what is left of the row
-  pub next-five : (end next : ℕ) (part : List ℕ) → next ≡ counter + 5 → 64 < length out - done → Next-end done (length out) end → length part ≡ length (midOf done (end - done) out) →
-      Part end part → Xored seed old (putMid done (end - done) out part) end next
-  next-five end next part next-is room e long part-is =
-      let same = w .same in
-      let behind = e .behind in
-      let within = e .within in
-      let left : done < length old = omega arith in
-      let start = w .place left in
+      let m-long : length (midOf done m out) ≡ m = mid-len done end out (omega arith) in
+      let new-part : part ≡ take m (drop done (xors old row)) = part-is ∙ rw (m-long, grid-row-part (length old) done m counter seed start (omega arith), next-old) (sym (rw (drop-xors done old row) (take-xors m (drop done old) (drop done row)))) in
       record {
         within = omega arith;
-        same = same-len-mid done (end - done) out part long ∙ same;
-        place = λ h. let whole = e .whole (omega arith) in omega arith;
-        so-far = written end part left (omega arith) (omega arith) part-is;
+        same = same-len-mid done m out part long ∙ same;
+        place = λ left. omega arith;
+        so-far = part-written (take done (xors old row)) old out part done end done-long (omega arith) (w .so-far) ∙ rw new-part (rw (sym (take-add done m (xors old row)), all));
       }
 
   -- where the row ends with a turn, it is XORed in
@@ -115,10 +92,3 @@ module _ (seed old out : List ℕ) (done counter : ℕ) (w : Xored seed old out 
   ended h =
       let same = w .same in
       w .so-far ∙ rw (take-all done (xors old row) (omega (arith, new-long)), drop-of-length-le old {i = done} (omega arith)) (append-nil (xors old row))
-
-  -- and where at most a block is left, it is once that is XORed in
-  pub last-block : (part : List ℕ) → done < length out → Part (length out) part → putMid done (length out - done) out part ≡ xors old row
-  last-block part left part-is =
-      let same = w .same in
-      written (length out) part (omega arith) (omega arith) (omega arith) part-is
-      ∙ rw (take-all (length out) (xors old row) (omega (arith, new-long)), drop-of-length-le old {i = length out} (omega arith)) (append-nil (xors old row))

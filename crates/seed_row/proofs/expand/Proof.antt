@@ -26,20 +26,20 @@ sub-loop c = omega arith
 add-end : tie.Need-add-end Inv-loop μ-loop
 add-end c = omega arith
 
-sub-five-counters : tie.Need-sub-five-counters Inv-loop μ-loop
-sub-five-counters c = omega arith
+sub-four-counters : tie.Need-sub-four-counters Inv-loop μ-loop
+sub-four-counters c = omega arith
 
-part-five-counters-start : tie.Need-part-five-counters-start Inv-loop μ-loop
-part-five-counters-start c = omega arith
+part-four-counters-start : tie.Need-part-four-counters-start Inv-loop μ-loop
+part-four-counters-start c = omega arith
 
-part-five-counters-end : tie.Need-part-five-counters-end Inv-loop μ-loop
-part-five-counters-end c = omega arith
+part-four-counters-end : tie.Need-part-four-counters-end Inv-loop μ-loop
+part-four-counters-end c = omega arith
 
-five-counters-requires : tie.Need-five-counters-requires Inv-loop μ-loop
-five-counters-requires c κs =
+four-counters-requires : tie.Need-four-counters-requires Inv-loop μ-loop
+four-counters-requires c κs =
     let l = c .before .before .loop in
-    let long : l .done + 320 - l .done ≡ 320 = omega arith in
-    (c .before .before .before .before .before .pre .0, omega arith, mid-len (l .done) (l .done + 320) (l .out) (omega arith) ∙ long)
+    let long : l .done + 256 - l .done ≡ 256 = omega arith in
+    (c .before .before .before .before .before .pre .0, omega arith, mid-len (l .done) (l .done + 256) (l .out) (omega arith) ∙ long)
 
 add-next : tie.Need-add-next Inv-loop μ-loop
 add-next c = omega arith
@@ -51,8 +51,8 @@ loop-again : tie.Need-loop-again Inv-loop μ-loop
 loop-again c =
     let l = c .before .before .before .before .before .loop in
     let a = c .before .before .before .before .before .before .before .before .args in
-    let put = c .before .before .five-counters in
-    next-blocks (now (a .seed)) (zeros 12) 0 (now (a .out)) (l .out) (l .next) (l .done) (l .inv) 5 _ _ (put .last .1 .1 .0) (omega arith) (omega arith) (omega arith) (put .kept .1 .1 .0) (put .ensures ∙ blocks-is 5 (l .next) (now (a .seed)))
+    let put = c .before .before .four-counters in
+    next-blocks (now (a .seed)) (zeros 12) 0 (now (a .out)) (l .out) (l .next) (l .done) (l .inv) 4 _ _ (put .last .1 .1 .0) (omega arith) (omega arith) (omega arith) (put .kept .1 .1 .0) (put .ensures ∙ blocks-is 4 (l .next) (now (a .seed)))
 
 sub-put-rest : tie.Need-sub-put-rest Inv-loop μ-loop
 sub-put-rest c = omega arith
@@ -90,10 +90,10 @@ expand-spec =
     loop-holds
     sub-loop
     add-end
-    sub-five-counters
-    part-five-counters-start
-    part-five-counters-end
-    five-counters-requires
+    sub-four-counters
+    part-four-counters-start
+    part-four-counters-end
+    four-counters-requires
     add-next
     loop-less
     loop-again

@@ -1,11 +1,11 @@
--- `one_row::put_rest` meets its contract. At most a block by the scalar stream, four by themselves, else more that are made and cut. Assumes nothing.
+-- `one_row::put_rest` meets its contract. At most a block by the scalar stream, else four that are made and cut. Assumes nothing.
 use borrow.Author.Needs.{needs}
 use mathlib.Core.Path.{_∙_}
 use native.Mathlib.Omega.{arith}
 use lib.ListN.{length}
 use denote.Ref.{now}
 use Rattle.xor.specs.Xor.{zeros}
-use Rattle.seed_row.proofs.OneRow.{four-whole}
+use Rattle.seed_row.proofs.OneRow.{front-of-four}
 use Rattle.seed_row.proofs.put_rest.Statement.{statement}
 use Rattle.seed_row.proofs.put_rest.Tie as tie
 
@@ -22,20 +22,11 @@ returns : tie.Need-returns
 unfolding zeros
 returns c = c .before .before .key-stream .ensures
 
+slice-aggregate-four-counters : tie.Need-slice-aggregate-four-counters
+slice-aggregate-four-counters c = search needs
+
 four-counters-requires : tie.Need-four-counters-requires
 four-counters-requires c κs = search needs
-
-same-length-2 : tie.Need-same-length-2
-same-length-2 c = search needs
-
-returns-2 : tie.Need-returns-2
-returns-2 c = let a = c .before .before .before .before .before .before .before .before .args in four-whole (length (now (a .out))) (a .counter) (now (a .seed)) _ (omega arith) (c .before .before .four-counters .ensures)
-
-slice-aggregate-make-blocks : tie.Need-slice-aggregate-make-blocks
-slice-aggregate-make-blocks c = search needs
-
-make-blocks-requires : tie.Need-make-blocks-requires
-make-blocks-requires c κs = search needs
 
 slice-aggregate-copy-front : tie.Need-slice-aggregate-copy-front
 slice-aggregate-copy-front c = search needs
@@ -43,11 +34,13 @@ slice-aggregate-copy-front c = search needs
 copy-front-requires : tie.Need-copy-front-requires
 copy-front-requires c κs = search needs
 
-same-length-3 : tie.Need-same-length-3
-same-length-3 c = search needs
+same-length-2 : tie.Need-same-length-2
+same-length-2 c = search needs
 
-returns-3 : tie.Need-returns-3
-returns-3 c = c .before .before .copy-front .ensures ∙ c .before .before .before .before .before .before .make-blocks .ensures
+returns-2 : tie.Need-returns-2
+returns-2 c =
+    let a = c .before .before .before .before .before .before .before .before .before .before .before .args in
+    c .before .before .copy-front .ensures ∙ front-of-four (length (now (a .out))) (a .counter) (now (a .seed)) _ (omega arith) (c .before .before .before .before .before .before .four-counters .ensures)
 
 pub put-rest-spec : {M : Type 1} → statement M
 put-rest-spec =
@@ -57,12 +50,9 @@ put-rest-spec =
     key-stream-requires
     same-length
     returns
+    slice-aggregate-four-counters
     four-counters-requires
-    same-length-2
-    returns-2
-    slice-aggregate-make-blocks
-    make-blocks-requires
     slice-aggregate-copy-front
     copy-front-requires
-    same-length-3
-    returns-3)
+    same-length-2
+    returns-2)
