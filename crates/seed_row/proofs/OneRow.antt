@@ -66,13 +66,11 @@ module _ (seed old out : List ℕ) (done counter : ℕ) (w : Xored seed old out 
   next-old : drop done out ≡ drop done old
   next-old = rw (w .so-far) (drop-at (take done (xors old row)) (drop done old) done done-long)
 
-  -- the next bytes, up to `end`, become their XOR with the stream from the counter on
-  abbrev pub Part : (end : ℕ) → (part : List ℕ) → Type 0
-  Part end part = part ≡ xors (midOf done (end - done) out) (key-stream (length (midOf done (end - done) out)) counter seed (zeros 12))
-
-  -- a turn of the loop: with four blocks, or what is left of the row, the bytes up to `end` are XORed
+  -- a turn of the loop: four blocks, or what is left of the row, become their XOR with the stream from the counter on
   pub next-part : (end next : ℕ) (part : List ℕ) → next ≡ counter + 4 → done < length out → end ≡ min (done + 256) (length out) →
-      length part ≡ length (midOf done (end - done) out) → Part end part → Xored seed old (putMid done (end - done) out part) end next
+      length part ≡ length (midOf done (end - done) out) →
+      part ≡ xors (midOf done (end - done) out) (key-stream (length (midOf done (end - done) out)) counter seed (zeros 12)) →
+      Xored seed old (putMid done (end - done) out part) end next
   next-part end next part next-is room end-is long part-is =
       let m = end - done in
       let same = w .same in
@@ -84,7 +82,9 @@ module _ (seed old out : List ℕ) (done counter : ℕ) (w : Xored seed old out 
         within = omega arith;
         same = same-len-mid done m out part long ∙ same;
         place = λ left. omega arith;
-        so-far = part-written (take done (xors old row)) old out part done end done-long (omega arith) (w .so-far) ∙ rw new-part (rw (sym (take-add done m (xors old row)), all));
+        so-far =
+            part-written (take done (xors old row)) old out part done end done-long (omega arith) (w .so-far)
+            ∙ rw new-part (rw (sym (take-add done m (xors old row)), all));
       }
 
   -- where the row ends with a turn, it is XORed in
