@@ -5,4 +5,12 @@ pub mod DealtKeys
 pub mod DealtCalls
 pub mod JoinedKeys
 pub mod Calls
+pub mod Demand1
+pub mod Demand2
+pub mod Demand3
+pub mod OfTheCalls
+pub mod RestsOn
+pub mod ChooseWidth
+pub mod MarkedDeals
+pub mod Document03
 pub mod Promise

@@ -1,3 +1,11 @@
 pub mod Calls
 pub mod Daggers
+pub mod Demand1
+pub mod Demand2
+pub mod Demand3
+pub mod OfTheCalls
+pub mod RestsOn
+pub mod ChooseWidth
+pub mod MarkedDeals
+pub mod Document03
 pub mod Promise
