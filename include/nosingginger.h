@@ -102,6 +102,8 @@ extern "C" {
 #define NSG_REFUSED_EXPANSION 16u   /* more than 4,096 bytes are asked of a seed */
 #define NSG_REFUSED_SENSOR 17u      /* the sensor is none of the spring board's 72 */
 
+/* ---- THE BOARD: what its numbers ask for, before anything is dealt. ---- */
+
 /* CHOOSE WIDTH: a grid's width for a board, for which keys are about as short as they can be: the least width with
    width * width >= positions * columns, or 256 where that is above 256.
    Refusals, in this order: 1, 2. Writes *width. The board has at most 256 grid rows at the width written. */
@@ -110,6 +112,13 @@ uint32_t nsg_choose_width(uint32_t players, uint32_t positions, uint32_t *width)
 /* KEY LENGTH: how many bytes each player's key has.
    Refusals, in this order: 1, 2, 3, 4, 5. Writes *length, at most NSG_MOST_KEY_BYTES. */
 uint32_t nsg_key_length(uint32_t players, uint32_t positions, uint32_t width, uint32_t value_bytes, uint32_t *length);
+
+/* SENSOR POSITION: the position that a sensor of the spring board lies under. Sensors run to and fro over nine lines of eight squares: with
+   line l = sensor / 8 and c = sensor % 8, position 8 * l + c on even lines and 8 * l + 7 - c on odd ones.
+   Refusals: 17. Writes *position. */
+uint32_t nsg_sensor_position(uint32_t sensor, uint32_t *position);
+
+/* ---- DEALING: the board hides a piece. ---- */
 
 /* DEAL: writes the keys of all players one after another, player 0 first: players * K bytes, with K from nsg_key_length.
      point    the piece's position.
@@ -127,10 +136,19 @@ uint32_t nsg_deal(uint32_t players, uint32_t positions, uint32_t width, uint32_t
                   const uint8_t *seeds, uint64_t seeds_length, const uint8_t *words, uint64_t words_length,
                   uint8_t *keys, uint64_t keys_length);
 
+/* ---- KEYS: what a key says of itself. ---- */
+
 /* CHECK KEY: whether the bytes are a key, and whose and of which board.
    Refusals, in this order: 10 (of any of the five numbers); 1, 2, 3, 4, 5 of the header's numbers; 11; 12; 13.
    Writes header[0] players, header[1] player, header[2] positions, header[3] width, header[4] value bytes. */
 uint32_t nsg_check_key(const uint8_t *key, uint64_t key_length, uint32_t header[5]);
+
+/* HELD SEED: where in the key the 32 bytes of the seed of a grid row and column begin: key + result. 0 where the key has none: nsg_check_key
+   refuses the key, the grid row or the column does not exist, or the player does not mark that column. (A held seed never begins at 0: the
+   header stands there.) Writes nothing. */
+uint64_t nsg_held_seed(const uint8_t *key, uint64_t key_length, uint32_t grid_row, uint32_t column);
+
+/* ---- OPENING: what one player sees. ---- */
 
 /* OPEN ONE: a player's share of one position, the value_bytes bytes that nsg_open_all writes for it. It expands
    the seeds of the position's grid row alone.
@@ -140,6 +158,8 @@ uint32_t nsg_open_one(const uint8_t *key, uint64_t key_length, uint32_t position
 /* OPEN ALL: a player's table, the share of every position.
    Refusals, in this order: those of nsg_check_key; 9 output under positions * value_bytes. Writes positions * value_bytes bytes. */
 uint32_t nsg_open_all(const uint8_t *key, uint64_t key_length, uint8_t *out, uint64_t out_length);
+
+/* ---- JOINING: what all players see together. ---- */
 
 /* JOIN SHARES: the XOR of all players' shares of one position: the value on the piece's square, zeros on every other.
      shares   players * value_bytes bytes, one share after another, in any order of players.
@@ -153,19 +173,11 @@ uint32_t nsg_join_shares(uint32_t players, uint32_t value_bytes, const uint8_t *
    Writes positions * value_bytes bytes. Keys of one board that come from different deals are not refused: they join to noise. */
 uint32_t nsg_join_keys(const uint8_t *keys, uint64_t keys_length, uint8_t *out, uint64_t out_length);
 
-/* HELD SEED: where in the key the 32 bytes of the seed of a grid row and column begin: key + result. 0 where the key has none: nsg_check_key
-   refuses the key, the grid row or the column does not exist, or the player does not mark that column. (A held seed never begins at 0: the
-   header stands there.) Writes nothing. */
-uint64_t nsg_held_seed(const uint8_t *key, uint64_t key_length, uint32_t grid_row, uint32_t column);
+/* ---- SEEDS: the rows that they stand for. ---- */
 
 /* EXPAND: fills the output with the first out_length bytes of the seed's key stream. Length 0 is accepted.
    Refusals, in this order: 7 seed not of 32 bytes; 16 output above NSG_MOST_EXPANDED_BYTES. Writes out_length bytes. */
 uint32_t nsg_expand(const uint8_t *seed, uint64_t seed_length, uint8_t *out, uint64_t out_length);
-
-/* SENSOR POSITION: the position that a sensor of the spring board lies under. Sensors run to and fro over nine lines of eight squares: with
-   line l = sensor / 8 and c = sensor % 8, position 8 * l + c on even lines and 8 * l + 7 - c on odd ones.
-   Refusals: 17. Writes *position. */
-uint32_t nsg_sensor_position(uint32_t sensor, uint32_t *position);
 
 #ifdef __cplusplus
 }

@@ -1,9 +1,9 @@
--- `nosingginger_c::nsg_choose_width` meets its contract. Assumes nothing.
+-- `nosingginger_c::board::nsg_choose_width` meets its contract. Assumes nothing.
 use Rattle.nosingginger_c.proofs.Pointers.{through}
 use Rattle.call_answers.specs.Answers.{Width-says}
 use borrow.Author.Needs.{needs}
-use Rattle.nosingginger_c.proofs.nsg_choose_width.Statement.{statement}
-use Rattle.nosingginger_c.proofs.nsg_choose_width.Tie as tie
+use Rattle.nosingginger_c.proofs.board.nsg_choose_width.Statement.{statement}
+use Rattle.nosingginger_c.proofs.board.nsg_choose_width.Tie as tie
 
 choose-width-requires : tie.Need-choose-width-requires
 choose-width-requires c κs = search needs

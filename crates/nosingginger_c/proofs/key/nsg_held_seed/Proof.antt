@@ -1,10 +1,10 @@
--- `nosingginger_c::nsg_held_seed` meets its contract: the place is the operation's, and the seed stands there. Assumes nothing.
+-- `nosingginger_c::key::nsg_held_seed` meets its contract: the place is the operation's, and the seed stands there. Assumes nothing.
 use denote.Ref.{now}
 use Rattle.xor.proofs.Laws.{good-by-entries}
 use Rattle.nosingginger_c.proofs.Pointers.{held-told}
 use borrow.Author.Needs.{needs}
-use Rattle.nosingginger_c.proofs.nsg_held_seed.Statement.{statement}
-use Rattle.nosingginger_c.proofs.nsg_held_seed.Tie as tie
+use Rattle.nosingginger_c.proofs.key.nsg_held_seed.Statement.{statement}
+use Rattle.nosingginger_c.proofs.key.nsg_held_seed.Tie as tie
 
 held-seed-place-requires : tie.Need-held-seed-place-requires
 held-seed-place-requires c κs = search needs

@@ -1,9 +1,9 @@
--- `nosingginger_c::nsg_sensor_position` meets its contract. Assumes nothing.
+-- `nosingginger_c::board::nsg_sensor_position` meets its contract. Assumes nothing.
 use Rattle.nosingginger_c.proofs.Pointers.{through}
 use Rattle.call_answers.specs.Answers.{Sensor-says}
 use borrow.Author.Needs.{needs}
-use Rattle.nosingginger_c.proofs.nsg_sensor_position.Statement.{statement}
-use Rattle.nosingginger_c.proofs.nsg_sensor_position.Tie as tie
+use Rattle.nosingginger_c.proofs.board.nsg_sensor_position.Statement.{statement}
+use Rattle.nosingginger_c.proofs.board.nsg_sensor_position.Tie as tie
 
 sensor-position-requires : tie.Need-sensor-position-requires
 sensor-position-requires c κs = search needs

@@ -1,9 +1,9 @@
--- `nosingginger_c::nsg_key_length` meets its contract. Assumes nothing.
+-- `nosingginger_c::board::nsg_key_length` meets its contract. Assumes nothing.
 use Rattle.nosingginger_c.proofs.Pointers.{through}
 use Rattle.call_answers.specs.Answers.{Long-says}
 use borrow.Author.Needs.{needs}
-use Rattle.nosingginger_c.proofs.nsg_key_length.Statement.{statement}
-use Rattle.nosingginger_c.proofs.nsg_key_length.Tie as tie
+use Rattle.nosingginger_c.proofs.board.nsg_key_length.Statement.{statement}
+use Rattle.nosingginger_c.proofs.board.nsg_key_length.Tie as tie
 
 key-length-requires : tie.Need-key-length-requires
 key-length-requires c κs = search needs

@@ -1,10 +1,10 @@
--- `nosingginger_c::nsg_check_key` meets its contract. Assumes nothing.
+-- `nosingginger_c::key::nsg_check_key` meets its contract. Assumes nothing.
 use mathlib.Core.Path.{refl, sym, ap, _∙_}
 use Rattle.key_check.specs.Checked.{checked-as}
 use Rattle.nosingginger_c.proofs.Pointers.{check-refused, check-accepted}
 use borrow.Author.Needs.{needs}
-use Rattle.nosingginger_c.proofs.nsg_check_key.Statement.{statement}
-use Rattle.nosingginger_c.proofs.nsg_check_key.Tie as tie
+use Rattle.nosingginger_c.proofs.key.nsg_check_key.Statement.{statement}
+use Rattle.nosingginger_c.proofs.key.nsg_check_key.Tie as tie
 
 check-key-requires : tie.Need-check-key-requires
 check-key-requires c κs = search needs
