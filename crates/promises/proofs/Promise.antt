@@ -1,6 +1,6 @@
--- THE PROMISES of specs/Promise.antt, kept: one term, which `promises::kept` asks for, made of one for each of the records, in a file of the
--- record's name. Those of the scheme are proved in the crate grid, those of keys as bytes in the crate keys, those of the calls and the marked
--- deals here. Assumes nothing.
+-- THE PROMISES of specs/Promise.antt, kept: one term, which `promises::kept` asks for, made of one for each of the records, in a file of
+-- the record's name. Those of the scheme are proved in the crate grid, those of keys as bytes in the crate keys, those of the calls and the
+-- marked deals here. Assumes nothing.
 use Rattle.promises.specs.Promise.{Promises}
 use Rattle.promises.proofs.Demand1.{demand-1}
 use Rattle.promises.proofs.Demand2.{demand-2}

@@ -1,6 +1,6 @@
--- THE FIRST DEMAND: bytes of every kind. The contracts of Answers.antt, JoinKeys.antt, Checked.antt and Held.antt name the full result or the
--- first refusal number that fits; here is what every lent byte is afterwards. proofs/Demand1.antt has the term. Quotations are document 01's.
--- Assumes nothing.
+-- THE FIRST DEMAND: bytes of every kind. The contracts of Answers.antt, JoinKeys.antt, Checked.antt and Held.antt name the full result or
+-- the first refusal number that fits; here is what every lent byte is afterwards. proofs/Demand1.antt has the term. Quotations are document
+-- 01's. Assumes nothing.
 pub use Rattle.promises.specs.Calls.{Refused-leaves, Answered-keeps}
 
 pub record Demand-1 : Type 0 where

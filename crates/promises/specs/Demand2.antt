@@ -1,4 +1,5 @@
--- THE SECOND DEMAND, beside the contracts of Answers.antt and JoinKeys.antt: keys as bytes. proofs/Demand2.antt has the term. Assumes nothing.
+-- THE SECOND DEMAND, beside the contracts of Answers.antt and JoinKeys.antt: keys as bytes. proofs/Demand2.antt has the term.
+-- Assumes nothing.
 pub use Rattle.chacha20.specs.Rfc8439.{Rows-by-rfc8439}
 unfoldable pub use Rattle.keys.specs.Promise.{Header-reads, Reads-parts, Only-writing, Same-parts, Dealt-accepted, Keys-long, Keys-apart}
 unfoldable pub use Rattle.keys.specs.Held.{Place-holds, Held-as-dealt}

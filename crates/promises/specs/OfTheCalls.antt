@@ -1,5 +1,5 @@
--- OF THE CALLS THEMSELVES, with expansion as the rule, from their contracts alone. The statements are those of Calls.antt, proofs/OfTheCalls.antt
--- has the term. Quotations are document 01's. Assumes nothing.
+-- OF THE CALLS THEMSELVES, with expansion as the rule, from their contracts alone. The statements are those of Calls.antt;
+-- proofs/OfTheCalls.antt has the term. Quotations are document 01's. Assumes nothing.
 unfoldable pub use Rattle.promises.specs.Calls.{Deals-open, Deals-drawn, Accepted-opens, Opens-agree, Joins-agree}
 
 pub record Of-the-calls : Type 0 where
