@@ -1,17 +1,18 @@
 -- How an operation's answer is shown: what a refusal says, what an accepted call says, and the chain of numbers before either.
 -- Assumes nothing.
 use mathlib.Core.Path.{_≡_, refl, sym, _∙_}
-use mathlib.Core.List.{List, _++_, append-nil}
+use mathlib.Core.List.{List}
 use Prim.Native.Nat.{ℕ, zero, suc, _≤_, _<_}
 use native.Mathlib.Omega.{arith}
 use borrow.Author.Tests.{eq-eqb, ne-eqb, le-leb, lt-leb, le-ltb, lt-ltb}
-use lib.ListN.{length, drop}
-use lib.Seq.{drop-length}
+use lib.ListN.{length}
 use Rattle.chacha20.specs.Expand.{expand}
 use Rattle.chacha20.proofs.Stream.{word-expand}
 use Rattle.grid.specs.Width.{width, sensor-position}
 use Rattle.grid.proofs.Refusing.{In, Out}
-use Rattle.call_answers.specs.Answers.{or-else, in-front, Put-says, says, Expand-says, width-refusal, Width-says, Sensor-says}
+use Rattle.call_answers.specs.Answers.{Put-says, says, Expand-says, width-refusal, Width-says, Sensor-says}
+use Rattle.writer.specs.Written.{in-front}
+use Rattle.writer.proofs.Laws.{in-front-whole}
 use Rattle.call_answers.specs.declared.Answer.{Answer}
 
 -- WHAT A CALL SAYS
@@ -41,25 +42,6 @@ module _ (n v : ℕ) (r : Answer) where
   pub says-value : n ≡ 0 → r .refusal ≡ 0 → r .value ≡ v → says n v r
   unfolding says
   says-value h e f = rw h (e, f)
-
--- "the first number that fits is given"
-pub first-fits : (a b : ℕ) → (a ≡ 0 → ⊥) → or-else a b ≡ a
-unfolding or-else
-first-fits a b h = rw (ne-eqb a 0 h)
-
-pub next-fits : (a b : ℕ) → a ≡ 0 → or-else a b ≡ b
-unfolding or-else
-next-fits a b h = rw (eq-eqb a 0 h)
-
--- the bytes named fill the output
-pub in-front-whole : (new old : List ℕ) → length new ≡ length old → in-front new old ≡ new
-unfolding in-front
-in-front-whole new old e = rw (e, drop-length old, append-nil)
-
--- they fill its first part
-pub in-front-part : (new last old : List ℕ) (k : ℕ) → length last ≡ k → last ≡ new → last ++ drop k old ≡ in-front new old
-unfolding in-front
-in-front-part new last old k l e = rw (← e, l)
 
 -- EXPAND
 

@@ -9,8 +9,10 @@ use lib.Dec.{ltb, leb}
 use lib.ListN.{length, take, drop, length-append, length-drop}
 use lib.Seq.{take-at, drop-at, take-append-le, drop-append-le}
 use borrow.Author.Tests.{ltb-false, le-ltb, leb-false, lt-leb}
-use Rattle.call_answers.specs.Answers.{or-else, in-front, Put-says}
-use Rattle.call_answers.proofs.Answering.{next-fits}
+use Rattle.call_answers.specs.Answers.{Put-says}
+use Rattle.keys.specs.Keys.{or-else}
+use Rattle.writer.specs.Written.{in-front}
+use Rattle.keys.proofs.Accepted.{next-fits}
 
 -- THE CHAIN OF NUMBERS
 
@@ -64,20 +66,16 @@ untouched (suc n) bytes r out out-now h refused = h .1
 
 module _ (k : ℕ) (new old : List ℕ) (long : length new ≡ k) where
   pub take-front : take k (in-front new old) ≡ new
-  unfolding in-front
   take-front = take-at new (drop (length new) old) k long
 
   pub drop-front : drop k (in-front new old) ≡ drop k old
-  unfolding in-front
   drop-front = drop-at new (drop (length new) old) k long ∙ ap (λ (n : ℕ). drop n old) long
 
   pub length-front : k ≤ length old → length (in-front new old) ≡ length old
-  unfolding in-front
   length-front room = length-append new (drop (length new) old) ∙ omega (arith, length-drop (length new) old)
 
 -- a part of what was written
 pub part-front : (from size : ℕ) (new old : List ℕ) → from + size ≤ length new → take size (drop from (in-front new old)) ≡ take size (drop from new)
-unfolding in-front
 part-front from size new old fits =
     let rest = drop (length new) old in
     rw (drop-append-le from new rest (omega arith)) (take-append-le size (drop from new) rest (rw length-drop (omega arith)))

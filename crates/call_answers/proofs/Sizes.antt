@@ -6,7 +6,8 @@ use native.Mathlib.Omega.{arith}
 use Rattle.grid.specs.Grid.{Board, board-refusal}
 use Rattle.grid.proofs.Facts.{board-in}
 use Rattle.keys.specs.Keys.{stride, key-long}
-use Rattle.key_lengths.proofs.Lengths.{header-most, rows-in, words-in}
+use Rattle.key_header.proofs.Lengths.{header-most}
+use Rattle.key_lengths.proofs.Lengths.{rows-in, words-in}
 
 module _ (b : Board) (accepted : board-refusal b ≡ 0) where
   pub key-most : key-long b ≤ 263183

@@ -2,25 +2,19 @@
 -- fixes the number, the value and every lent byte, refused calls too. Join keys has its own file; Check key and
 -- Held seed answer as the crate keys says. Assumes nothing: these are definitions.
 use mathlib.Core.Path.{_≡_}
-use mathlib.Core.Bool.{_&&_, not, cond}
-use mathlib.Core.List.{List, _++_}
-use Prim.Native.Nat.{ℕ, zero, suc, _+_, _*_}
+use mathlib.Core.Bool.{not, cond}
+use mathlib.Core.List.{List}
+use Prim.Native.Nat.{ℕ, zero, suc, _*_}
 use lib.Dec.{ltb, leb, eqb}
 use lib.ListN.{length, take, drop}
 use Rattle.xor.specs.Xor.{xors, zeros}
+use Rattle.writer.specs.Written.{in-front}
 use Rattle.chacha20.specs.Expand.{expand}
-use Rattle.grid.specs.Grid.{Board, board, board-refusal, row-long}
+use Rattle.seed_rows.specs.Rows.{rule}
+use Rattle.grid.specs.Grid.{board, board-refusal, players-fit, positions-fit, value-fits}
 use Rattle.grid.specs.Width.{width, sensor-position}
-use Rattle.keys.specs.Keys.{Lent, deal-refusal, keys-from, key-long, key-refusal, head-in, opened, table}
+use Rattle.keys.specs.Keys.{or-else, lent, deal-refusal, keys-from, key-long, key-refusal, head-in, opened, table}
 use Rattle.call_answers.specs.declared.Answer.{Answer}
-
--- "the first number that fits is given": a number, or else the next
-unfoldable pub or-else : (a b : ℕ) → ℕ
-or-else a b = cond (eqb a 0) b a
-
--- "output past the bytes named keeps its bytes"
-unfoldable pub in-front : (new old : List ℕ) → List ℕ
-in-front new old = new ++ drop (length new) old
 
 -- "either the full result or the first refusal number that fits, the lent output then unchanged"
 unfoldable pub Put-says : (refusal : ℕ) → (bytes : List ℕ) → (r : ℕ) → (out out-now : List ℕ) → Type 0
@@ -30,14 +24,6 @@ Put-says (suc n) bs r o z = (r ≡ suc n) × (z ≡ o)
 -- a number and a value; the value of a refused call is 0
 unfoldable pub says : (refusal value : ℕ) → Answer → Type 0
 says n v r = (r .refusal ≡ n) × (r .value ≡ cond (eqb n 0) v 0)
-
--- what Deal is lent
-unfoldable pub lent : (point : ℕ) → (value arrays seeds words : List ℕ) → Lent
-lent a v cs ss ws = record { point = a; value = v; arrays = cs; seeds = ss; words = ws }
-
--- "a row is the first μ × w bytes of the key stream"
-unfoldable pub rule : Board → List ℕ → List ℕ
-rule b seed = expand (row-long b) seed
 
 -- DEAL: 1 to 8, 9; p keys one after another, player 0 first
 unfoldable pub Deal-says : (p n m w point : ℕ) → (value arrays seeds words : List ℕ) → (r : ℕ) → (out out-now : List ℕ) → Type 0
@@ -73,8 +59,8 @@ joined-shares (suc k) w bs = xors (take w bs) (joined-shares k w (drop w bs))
 
 unfoldable pub shares-refusal : (p w long room : ℕ) → ℕ
 shares-refusal p w l o =
-    cond (not (leb 2 p && leb p 6)) 1
-    (cond (not (leb 1 w && leb w 16)) 4 (cond (not (eqb l (p * w))) 7 (cond (ltb o w) 9 0)))
+    cond (not (players-fit p)) 1
+    (cond (not (value-fits w)) 4 (cond (not (eqb l (p * w))) 7 (cond (ltb o w) 9 0)))
 
 unfoldable pub Join-says : (p w : ℕ) → (shares : List ℕ) → (r : ℕ) → (out out-now : List ℕ) → Type 0
 Join-says p w bs r o z = Put-says (shares-refusal p w (length bs) (length o)) (joined-shares p w bs) r o z
@@ -86,7 +72,7 @@ Expand-says bs r o z =
 
 -- CHOOSE WIDTH: 1, 2
 unfoldable pub width-refusal : (p n : ℕ) → ℕ
-width-refusal p n = cond (not (leb 2 p && leb p 6)) 1 (cond (not (leb 1 n && leb n 65536)) 2 0)
+width-refusal p n = cond (not (players-fit p)) 1 (cond (not (positions-fit n)) 2 0)
 
 unfoldable pub Width-says : (p n : ℕ) → Answer → Type 0
 Width-says p n r = says (width-refusal p n) (width p n) r

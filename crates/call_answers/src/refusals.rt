@@ -8,8 +8,8 @@ pub use grid::board::REFUSED_VALUE_BYTES;
 pub use grid::board::REFUSED_WIDTH;
 pub use key_check::check::REFUSED_LENGTH;
 pub use key_check::check::REFUSED_MARKS;
-pub use key_check::check::REFUSED_NUMBER;
-pub use key_check::check::REFUSED_PLAYER;
+pub use key_header::REFUSED_NUMBER;
+pub use key_header::REFUSED_PLAYER;
 
 // The point is none of the board's positions.
 pub const REFUSED_POINT: u32 = 6;

@@ -1,12 +1,8 @@
 -- Rows from seeds: ChaCha20's key stream, nonce zero, counter from 0. Document 03's definitions, word for word; the comment at each
 -- says which sentence of RFC 8439 (by section) or of document 01 it writes down. Assumes nothing: these are definitions.
-use mathlib.Core.Path.{_≡_}
-use mathlib.Core.Bool.{Bool, true, false, _&&_, _||_, not, cond}
 use mathlib.Core.List.{List, [], _∷_, _++_}
-use mathlib.Core.Option.{Option, none, some}
-use Prim.Native.Nat.{ℕ, zero, suc, _+_, _*_, _-_, _/_, _%_, _^_, _≤_, _<_, min}
-use lib.Dec.{ltb, leb, eqb}
-use lib.ListN.{length, getD, set, take, drop, replicate}
+use Prim.Native.Nat.{ℕ, zero, suc, _+_, _*_, _-_, _/_, _%_, _^_}
+use lib.ListN.{getD, set, take}
 use Rattle.xor.specs.Xor.{xor-from}
 
 -- 2.1: the modulus of "integer addition modulo 2^32"

@@ -2,57 +2,46 @@
 use mathlib.Core.Path.{_≡_, refl, sym, _∙_}
 use mathlib.Core.Bool.{Bool, true, false, _&&_, not, cond}
 use mathlib.Core.List.{List}
-use Prim.Native.Nat.{ℕ, _*_, _-_, _≤_, _<_}
-use native.Mathlib.Nat.{mul-le-mul}
+use Prim.Native.Nat.{ℕ, _*_, _≤_, _<_}
 use native.Mathlib.Omega.{arith}
 use borrow.Author.Tests.{eq-eqb, ne-eqb, le-leb, lt-leb, le-ltb, lt-ltb, eqb-true, not-true, not-false}
 use lib.Dec.{eqb, ltb}
 use lib.ListN.{length}
 use Rattle.xor.proofs.Laws.{and-left, and-right}
-use Rattle.grid.specs.Grid.{Board, board, board-refusal, columns, grid-rows, row-long, arrays-good}
-use Rattle.grid.proofs.Facts.{board-in}
-use Rattle.grid.proofs.Sizes.{row-most, columns-few, arrays-most}
-use Rattle.keys.specs.Keys.{Lent, key-long, deal-refusal}
-use Rattle.keys.proofs.Accepted.{passed, refusing}
-use Rattle.deal_last_word.specs.LastWord as LastWord
-use Rattle.deal_keys.specs.Dealt as Dealt
-use Rattle.call_answers.specs.Answers.{or-else, in-front, lent, rule, Deal-says}
-use Rattle.deal_call.specs.Lent.{lent-fits}
-use Rattle.call_answers.proofs.Answering.{put-number, put-done, first-fits, next-fits}
+use Rattle.grid.specs.Grid.{Board, board, board-refusal, grid-rows, arrays-long, seeds-long, words-long, arrays-good}
+use Rattle.keys.specs.Keys.{Lent, key-long, deal-refusal, or-else, lent, lent-fits}
+use Rattle.keys.proofs.Accepted.{passed, refusing, first-fits, next-fits}
+use Rattle.deal_keys.specs.Dealt.{dealt-keys}
+use Rattle.call_answers.specs.Answers.{Deal-says}
+use Rattle.writer.specs.Written.{in-front}
+use Rattle.call_answers.proofs.Answering.{put-number, put-done}
 
 -- THE LENGTHS
 
-pub cells-are : (b : Board) {r c : ℕ} → r ≡ grid-rows b → c ≡ columns b → r * c ≡ grid-rows b * columns b
-cells-are b e f = rw (e, f)
-
 module _ (b : Board) (v cs ss ws : ℕ) where
   pub other-value : (v ≡ b .w → ⊥) → false ≡ lent-fits b v cs ss ws
-  unfolding lent-fits
   other-value h = rw (ne-eqb v (b .w) h)
 
-  module _ (cells : ℕ) (k : cells ≡ grid-rows b * columns b) (value : v ≡ b .w) where
-    pub other-arrays : (cs ≡ cells → ⊥) → false ≡ lent-fits b v cs ss ws
-    unfolding lent-fits
-    other-arrays h = rw (eq-eqb v (b .w) value, ← k, ne-eqb cs cells h)
+  module _ (value : v ≡ b .w) (c : ℕ) (arrays-is : c ≡ arrays-long b) where
+    pub other-arrays : (cs ≡ c → ⊥) → false ≡ lent-fits b v cs ss ws
+    other-arrays h = rw (eq-eqb v (b .w) value, ← arrays-is, ne-eqb cs c h)
 
-    module _ (arrays : cs ≡ cells) where
-      pub other-seeds : (ss ≡ 32 * cells → ⊥) → false ≡ lent-fits b v cs ss ws
-      unfolding lent-fits
-      other-seeds h = rw (eq-eqb v (b .w) value, ← k, eq-eqb cs cells arrays, ne-eqb ss (32 * cells) h)
+    module _ (arrays : cs ≡ c) (s : ℕ) (seeds-is : s ≡ seeds-long b) where
+      first : eqb cs (arrays-long b) ≡ true
+      first = rw (← arrays-is) (eq-eqb cs c arrays)
 
-      pub fits-but-words : (c l : ℕ) → ss ≡ 32 * cells → c ≡ columns b → l ≡ row-long b → eqb ws ((c - 1) * l) ≡ lent-fits b v cs ss ws
-      unfolding lent-fits
-      fits-but-words c l seeds e f =
-          rw (eq-eqb v (b .w) value, ← k, eq-eqb cs cells arrays, eq-eqb ss (32 * cells) seeds, e, f)
+      pub other-seeds : (ss ≡ s → ⊥) → false ≡ lent-fits b v cs ss ws
+      other-seeds h = rw (eq-eqb v (b .w) value, first, ← seeds-is, ne-eqb ss s h)
 
-  pub arrays-fit : {r : Bool} → r ≡ lent-fits b v cs ss ws → not r ≡ false → cs ≡ grid-rows b * columns b
-  unfolding lent-fits
+      pub fits-but-words : (l : ℕ) → ss ≡ s → l ≡ words-long b → eqb ws l ≡ lent-fits b v cs ss ws
+      fits-but-words l seeds words-is = rw (eq-eqb v (b .w) value, first, ← seeds-is, eq-eqb ss s seeds, words-is)
+
+  pub arrays-fit : {r : Bool} → r ≡ lent-fits b v cs ss ws → not r ≡ false → cs ≡ arrays-long b
   arrays-fit {r} e h =
-      let cells = grid-rows b * columns b in
       let value = eqb v (b .w) in
-      let arrays = eqb cs cells in
-      let rest = eqb ss (32 * cells) && eqb ws ((columns b - 1) * row-long b) in
-      eqb-true cs cells (and-right value arrays (and-left (value && arrays) rest (sym e ∙ not-false r h)))
+      let arrays = eqb cs (arrays-long b) in
+      let rest = eqb ss (seeds-long b) && eqb ws (words-long b) in
+      eqb-true cs (arrays-long b) (and-right value arrays (and-left (value && arrays) rest (sym e ∙ not-false r h)))
 
 -- THE CHAIN
 
@@ -75,7 +64,7 @@ module _ (b : Board) (l : Lent) where
 
     module _ (inside : l .point < b .n) (fit : Bool) (test : fit ≡ lent-fits b (length (l .value)) (length (l .arrays)) (length (l .seeds)) (length (l .words))) where
       behind : deal-refusal b l ≡ cond (not fit) 7 (cond (arrays-good (grid-rows b) 0 b (l .point) (l .arrays)) 0 8)
-      unfolding deal-refusal lent-fits
+      unfolding deal-refusal
       behind = rw (fine, lt-leb (b .n) (l .point) inside, test)
 
       pub deal-lent : not fit ≡ true → 7 ≡ deal-refusal b l
@@ -90,16 +79,6 @@ module _ (b : Board) (l : Lent) where
 
         pub deal-none : not good ≡ false → 0 ≡ deal-refusal b l
         deal-none h = sym (last ∙ rw (not-false good h))
-
--- no product overflows
-module _ (b : Board) (fine : board-refusal b ≡ 0) where
-  pub cells-most : {r c : ℕ} → r ≡ grid-rows b → c ≡ columns b → r * c ≤ 8192
-  cells-most e f = rw (e, f) (arrays-most b (board-in b fine))
-
-  pub words-most : {c l : ℕ} → c ≡ columns b → l ≡ row-long b → (c - 1) * l ≤ 131072
-  words-most {c} e f =
-      let few : c - 1 ≤ 32 = omega (arith, columns-few b (board-in b fine)) in
-      rw f (mul-le-mul few (row-most b (board-in b fine)))
 
 -- WHAT DEAL SAYS
 
@@ -118,7 +97,7 @@ module _ (p n m w a : ℕ) (v cs ss ws o : List ℕ) where
     unfolding Deal-says
     deal-room-refused h = put-number _ 9 _ o (room-number ∙ rw (lt-ltb (length o) (p * long) h)) (λ z. omega arith)
 
-    pub dealt : (z : List ℕ) → p * long ≤ length o → z ≡ Dealt.in-front (Dealt.dealt-keys (board p n m w) (Dealt.lent a v cs ss ws)) o
+    pub dealt : (z : List ℕ) → p * long ≤ length o → z ≡ in-front (dealt-keys (board p n m w) (lent a v cs ss ws)) o
         → Deal-says p n m w a v cs ss ws 0 o z
-    unfolding Deal-says Dealt.in-front in-front Dealt.dealt-keys LastWord.rule rule board lent
+    unfolding Deal-says dealt-keys board
     dealt z h e = put-done _ _ 0 o z (room-number ∙ rw (le-ltb (length o) (p * long) h)) refl e

@@ -6,32 +6,28 @@ use call_answers::refusals::REFUSED_POINT;
 use call_answers::refusals::REFUSED_ROOM;
 use grid::board::Board;
 use grid_arrays::arrays_good;
-use key_lengths::SEED_BYTES;
 use key_lengths::key_length;
 ghost use mathlib.Core.Path.{_≡_};
 ghost use Rattle.grid.specs.Grid.{board-refusal};
 ghost use Rattle.grid.specs.Code.{board-of};
-ghost use Rattle.keys.specs.Keys.{deal-refusal};
-ghost use Rattle.call_answers.specs.Answers.{lent, Deal-says};
-ghost use Rattle.deal_call.specs.Lent.{lent-fits};
+ghost use Rattle.keys.specs.Keys.{deal-refusal, lent, lent-fits};
+ghost use Rattle.call_answers.specs.Answers.{Deal-says};
 
 // Whether value, arrays, seeds and words have the lengths that the board asks.
 fn lent_fits(board: Board, value: usize, arrays: usize, seeds: usize, words: usize) -> bool
     requires { ⌜ board-refusal (board-of board) ≡ 0 ⌝ }
     ensures { λ r. ⌜ r ≡ lent-fits (board-of board) value arrays seeds words ⌝ }
 {
-    let columns = board.columns();
-    let cells = board.grid_rows() * columns;
     if value != board.value_bytes as usize {
         return false;
     }
-    if arrays != cells {
+    if arrays != board.arrays_length() {
         return false;
     }
-    if seeds != SEED_BYTES * cells {
+    if seeds != board.seeds_length() {
         return false;
     }
-    words == (columns - 1) * board.row_length()
+    words == board.words_length()
 }
 
 // 1 to 8: the first that fits, or 0.

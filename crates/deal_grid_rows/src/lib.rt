@@ -4,7 +4,7 @@ ghost use mathlib.Core.Bool.{cond};
 ghost use mathlib.Core.List.{[]};
 ghost use Prim.Native.Nat.{_+_, _*_, _/_, _≤_, _<_};
 ghost use lib.ListN.{length};
-ghost use Rattle.grid.specs.Grid.{board-refusal, columns, grid-rows};
+ghost use Rattle.grid.specs.Grid.{board-refusal, columns, grid-rows, arrays-long, seeds-long};
 ghost use Rattle.grid.specs.Code.{board-of};
 ghost use Rattle.keys.specs.Keys.{held-seeds, body-from};
 ghost use Rattle.deal_grid_rows.specs.Rows.{column-seed, row-bytes};
@@ -13,7 +13,7 @@ use deal_marks::four_marks;
 use deal_marks::marked;
 use deal_marks::put_marks;
 use grid::board::Board;
-use key_lengths::SEED_BYTES;
+use grid::board::SEED_BYTES;
 use key_lengths::mark_bytes;
 use writer::put;
 use writer::put_byte;
@@ -113,7 +113,7 @@ pub fn put_grid_rows(
     arrays: &[u8],
     seeds: &[u8],
 ) -> usize
-    requires { ⌜ (board-refusal (board-of board) ≡ 0) × (player < 8) × (length (now arrays) ≡ grid-rows (board-of board) * columns (board-of board)) × (length (now seeds) ≡ 32 * (grid-rows (board-of board) * columns (board-of board))) × (at + length (body-from (grid-rows (board-of board)) (board-of board) player (now arrays) (now seeds)) ≤ length (now out)) ⌝ }
+    requires { ⌜ (board-refusal (board-of board) ≡ 0) × (player < 8) × (length (now arrays) ≡ arrays-long (board-of board)) × (length (now seeds) ≡ seeds-long (board-of board)) × (at + length (body-from (grid-rows (board-of board)) (board-of board) player (now arrays) (now seeds)) ≤ length (now out)) ⌝ }
     ensures { λ r. ⌜ Wrote at (body-from (grid-rows (board-of board)) (board-of board) player (now (arrays .entry)) (now (seeds .entry))) r (now (out .entry)) (now (out .exit)) ⌝ }
 {
     let columns = board.columns();

@@ -18,12 +18,13 @@ use Rattle.grid.proofs.Arrays.{half-is-marked}
 use Rattle.keys.specs.Keys.{Lent, header, packed, held-seeds, mark-bytes, body-from, glued, key-long, words-from, dealing, key, keys-from, stride}
 use Rattle.keys.proofs.Lists.{glue-words}
 use Rattle.keys.proofs.Numbers.{header-long}
-use Rattle.writer.specs.Written.{Wrote, written}
+use Rattle.writer.specs.Written.{Wrote, written, in-front}
 use Rattle.writer.proofs.Laws.{wrote-then, wrote-more, wrote-length, part-kept, part-written, written-front}
 use Rattle.deal_marks.proofs.PackedMarks.{packed-long}
-use Rattle.deal_last_word.specs.LastWord.{rule, dealt-word}
+use Rattle.deal_last_word.specs.LastWord.{dealt-word}
+use Rattle.seed_rows.specs.Rows.{rule}
 use Rattle.deal_last_word.proofs.LastWord.{dealt-word-long}
-use Rattle.deal_keys.specs.Dealt.{key-front, dealt-keys, in-front}
+use Rattle.deal_keys.specs.Dealt.{key-front, dealt-keys}
 use Rattle.deal_keys.proofs.Lending.{Lent-fits}
 
 -- LENGTHS
@@ -298,7 +299,7 @@ module _ (b : Board) (l : Lent) (facts : Lent-fits b l) where
 
     -- in the end all keys are written
     pub all-written : (player next : ℕ) (keys : List ℕ) → player ≡ b .p → Wrote start (some-keys (player - 1) 1) next begun keys → keys ≡ in-front (dealt-keys b l) old
-    unfolding in-front dealt-keys keys-from
+    unfolding dealt-keys keys-from
     all-written player next keys done so-far =
         let rest = some-keys (player - 1) 1 in
         let count : b .p ≡ suc (player - 1) = omega (arith, least) in

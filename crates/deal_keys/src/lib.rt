@@ -1,15 +1,15 @@
 // Dealing: the keys of an accepted dealing, written one after another. Refusals stand above this crate. Assumes nothing.
-pub mod header;
-
 ghost use mathlib.Core.Path.{_≡_};
 ghost use Prim.Native.Nat.{_+_, _*_, _≤_, _<_};
 ghost use lib.ListN.{length};
-ghost use Rattle.grid.specs.Grid.{board-refusal, columns, grid-rows};
+ghost use Rattle.grid.specs.Grid.{board-refusal, arrays-long, seeds-long};
 ghost use Rattle.grid.specs.Code.{board-of};
-ghost use Rattle.keys.specs.Keys.{key-long, deal-refusal};
-ghost use Rattle.writer.specs.Written.{Wrote};
-ghost use Rattle.deal_keys.specs.Dealt.{lent, key-front, dealt-keys, in-front};
+ghost use Rattle.keys.specs.Keys.{key-long, deal-refusal, lent};
+ghost use Rattle.writer.specs.Written.{Wrote, in-front};
+ghost use Rattle.deal_keys.specs.Dealt.{key-front, dealt-keys};
 use grid::board::Board;
+use key_header::Header;
+use key_header::put_header;
 
 // Writes a player's key but for its last word: the header, the grid rows, and the lent words whole.
 fn put_front(
@@ -21,18 +21,10 @@ fn put_front(
     seeds: &[u8],
     words: &[u8],
 ) -> usize
-    requires { ⌜ (board-refusal (board-of board) ≡ 0) × (player < 8) × (length (now arrays) ≡ grid-rows (board-of board) * columns (board-of board)) × (length (now seeds) ≡ 32 * (grid-rows (board-of board) * columns (board-of board))) × (at + length (key-front (board-of board) player (now arrays) (now seeds) (now words)) ≤ length (now out)) ⌝ }
+    requires { ⌜ (board-refusal (board-of board) ≡ 0) × (player < 8) × (length (now arrays) ≡ arrays-long (board-of board)) × (length (now seeds) ≡ seeds-long (board-of board)) × (at + length (key-front (board-of board) player (now arrays) (now seeds) (now words)) ≤ length (now out)) ⌝ }
     ensures { λ r. ⌜ Wrote at (key-front (board-of board) player (now (arrays .entry)) (now (seeds .entry)) (now (words .entry))) r (now (out .entry)) (now (out .exit)) ⌝ }
 {
-    let next = header::put_header(
-        out,
-        at,
-        board.players,
-        player,
-        board.positions,
-        board.width,
-        board.value_bytes,
-    );
+    let next = put_header(out, at, Header { board, player });
     let next = deal_grid_rows::put_grid_rows(out, next, board, player, arrays, seeds);
     writer::put(out, next, words)
 }

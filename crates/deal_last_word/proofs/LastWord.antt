@@ -14,13 +14,13 @@ use Rattle.grid.specs.Grid.{Board, columns, grid-rows, row-long, row-of, piece,
 use Rattle.grid.proofs.Facts.{Board-in, cell-in, cell-fits, grid-row-in}
 use Rattle.chacha20.specs.Expand.{expand}
 use Rattle.chacha20.proofs.Stream.{word-expand}
-use Rattle.seed_rows.specs.Rows.{rows-joined}
+use Rattle.seed_rows.specs.Rows.{rows-joined, rule}
 use Rattle.seed_rows.proofs.Seeds.{rows-of-front}
 use Rattle.keys.specs.Keys.{rows-from, words-from}
 use Rattle.keys.proofs.Lists.{words-at}
 use Rattle.keys.proofs.Dealing.{rows-at}
 use Rattle.writer.specs.Written.{written}
-use Rattle.deal_last_word.specs.LastWord.{rule, dealt-word}
+use Rattle.deal_last_word.specs.LastWord.{dealt-word}
 use Rattle.writer.proofs.Cuts.{part-long, part-whole}
 
 -- THE PIECE
@@ -114,7 +114,7 @@ module _ (b : Board) (f : Board-in b) (a : ℕ) (value seeds words : List ℕ) (
       words-out ≡ xor-all (words-from (columns b - 1) (row-long b) words) piece-out →
       rows-out ≡ xor-all (rows-from (columns b) (expand (row-long b)) (drop (32 * (a / b .wide * columns b)) seeds)) words-out →
       rows-out ≡ dealt-word b (rule b) a value seeds words
-  unfolding dealt-word rule piece
+  unfolding dealt-word piece
   word-made p q r =
       let cell : a % b .wide * b .w + length value ≡ suc (a % b .wide) * b .w = omega arith in
       let first : a / b .wide * columns b + 0 ≡ a / b .wide * columns b = omega arith in

@@ -5,13 +5,14 @@ ghost use mathlib.Core.List.{_++_};
 ghost use Prim.Native.Nat.{_+_, _*_, _-_, _≤_, _<_};
 ghost use lib.ListN.{length};
 ghost use Rattle.xor.specs.Xor.{zeros};
-ghost use Rattle.grid.specs.Grid.{board-refusal, columns, grid-rows, row-long, xor-all};
+ghost use Rattle.grid.specs.Grid.{board-refusal, columns, row-long, xor-all, seeds-long, words-long};
 ghost use Rattle.grid.specs.Code.{board-of};
 ghost use Rattle.keys.specs.Keys.{words-from};
 ghost use Rattle.writer.specs.Written.{Wrote};
-ghost use Rattle.deal_last_word.specs.LastWord.{rule, dealt-word};
+ghost use Rattle.deal_last_word.specs.LastWord.{dealt-word};
+ghost use Rattle.seed_rows.specs.Rows.{rule};
 use grid::board::Board;
-use key_lengths::SEED_BYTES;
+use grid::board::SEED_BYTES;
 use seed_rows::xor_rows;
 
 // Writes the value from place `from` on, and zeros everywhere else.
@@ -40,7 +41,7 @@ fn xor_words(out: &mut [u8], count: usize, words: &[u8])
 
 // Fills `out` with the last word.
 fn last_word(out: &mut [u8], board: Board, point: u32, value: &[u8], seeds: &[u8], words: &[u8])
-    requires { ⌜ (board-refusal (board-of board) ≡ 0) × (point < board .positions) × (length (now value) ≡ board .«value_bytes») × (length (now seeds) ≡ 32 * (grid-rows (board-of board) * columns (board-of board))) × (length (now words) ≡ (columns (board-of board) - 1) * row-long (board-of board)) × (length (now out) ≡ row-long (board-of board)) ⌝ }
+    requires { ⌜ (board-refusal (board-of board) ≡ 0) × (point < board .positions) × (length (now value) ≡ board .«value_bytes») × (length (now seeds) ≡ seeds-long (board-of board)) × (length (now words) ≡ words-long (board-of board)) × (length (now out) ≡ row-long (board-of board)) ⌝ }
     ensures { λ r. ⌜ now (out .exit) ≡ dealt-word (board-of board) (rule (board-of board)) point (now (value .entry)) (now (seeds .entry)) (now (words .entry)) ⌝ }
 {
     let columns = board.columns();
@@ -62,7 +63,7 @@ pub fn put_last_word(
     seeds: &[u8],
     words: &[u8],
 ) -> usize
-    requires { ⌜ (board-refusal (board-of board) ≡ 0) × (point < board .positions) × (length (now value) ≡ board .«value_bytes») × (length (now seeds) ≡ 32 * (grid-rows (board-of board) * columns (board-of board))) × (length (now words) ≡ (columns (board-of board) - 1) * row-long (board-of board)) × (at + row-long (board-of board) ≤ length (now out)) ⌝ }
+    requires { ⌜ (board-refusal (board-of board) ≡ 0) × (point < board .positions) × (length (now value) ≡ board .«value_bytes») × (length (now seeds) ≡ seeds-long (board-of board)) × (length (now words) ≡ words-long (board-of board)) × (at + row-long (board-of board) ≤ length (now out)) ⌝ }
     ensures { λ r. ⌜ Wrote at (dealt-word (board-of board) (rule (board-of board)) point (now (value .entry)) (now (seeds .entry)) (now (words .entry))) r (now (out .entry)) (now (out .exit)) ⌝ }
 {
     let end = at + board.row_length();

@@ -1,7 +1,7 @@
 -- One column of p marks: its bits and its parity. A column is fixed by its marks; by its parity and the marks of all players but one; and
 -- there is just one column with given marks of the others and a given parity, the mended column. Assumes nothing.
 use mathlib.Core.Path.{_≡_, refl, sym, ap, _∙_}
-use mathlib.Core.Bool.{Bool, true, false, not, cond, true≢false, false≢true}
+use mathlib.Core.Bool.{Bool, true, false, not, cond, true≢false}
 use Prim.Native.Nat.{ℕ, zero, suc, _+_, _*_, _-_, _/_, _%_, _^_, _≤_, _<_}
 use native.Mathlib.Omega.{arith}
 use native.Mathlib.Nat.{div-one, pow-succ', div-div-eq-div-mul}

@@ -103,10 +103,7 @@ columns-half b f =
     let e : suc (b .p - 2) ≡ b .p - 1 = omega arith in
     subst (λ (k : ℕ). 2 ^ k ≡ 2 * 2 ^ (b .p - 2)) e (omega arith)
 
--- an array has 2 to 32 columns, and a column has at most six bits
-pub columns-least : (b : Board) → Board-in b → 2 ≤ columns b
-columns-least b f = omega (arith, columns-half b f, pow-pos (b .p - 2))
-
+-- a column has at most six bits
 pub column-most : (b : Board) → Board-in b → 2 ^ b .p ≤ 64
 column-most b f = pow-mono (f .players-most)
 

@@ -1,11 +1,10 @@
 -- How large the grid of an accepted board can be, so that a caller's products fit.
 -- Assumes nothing.
-use mathlib.Core.Path.{_≡_}
-use Prim.Native.Nat.{_*_, _-_, _≤_}
+use Prim.Native.Nat.{_-_, _≤_}
 use native.Mathlib.Nat.{mul-le-mul}
 use native.Mathlib.Omega.{arith}
 use lib.Pow.{pow-mono}
-use Rattle.grid.specs.Grid.{Board, columns, grid-rows, row-long}
+use Rattle.grid.specs.Grid.{Board, columns, row-long, arrays-long, words-long}
 use Rattle.grid.proofs.Facts.{Board-in}
 
 pub columns-few : (b : Board) → Board-in b → columns b ≤ 32
@@ -16,5 +15,8 @@ pub row-most : (b : Board) → Board-in b → row-long b ≤ 4096
 unfolding row-long
 row-most b f = mul-le-mul (f .wide-most) (f .value-most)
 
-pub arrays-most : (b : Board) → Board-in b → grid-rows b * columns b ≤ 8192
+pub arrays-most : (b : Board) → Board-in b → arrays-long b ≤ 8192
 arrays-most b f = mul-le-mul (f .rows-most) (columns-few b f)
+
+pub words-most : (b : Board) → Board-in b → words-long b ≤ 131072
+words-most b f = let fewer : columns b - 1 ≤ 32 = omega (arith, columns-few b f) in mul-le-mul fewer (row-most b f)

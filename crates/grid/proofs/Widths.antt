@@ -10,7 +10,7 @@ use native.Mathlib.Omega.{arith}
 use lib.Dec.{leb}
 use lib.Pow.{pow-pos, pow-mono}
 use borrow.Author.Tests.{leb-true, leb-false, le-leb, lt-leb}
-use Rattle.grid.specs.Grid.{Board, board, grid-rows, board-refusal}
+use Rattle.grid.specs.Grid.{board, grid-rows}
 use Rattle.grid.specs.Width.{width, width-from, Least-width, Width-is-least, Width-serves}
 use Rattle.grid.proofs.Counting.{one-left}
 use Rattle.grid.proofs.Facts.{board-accepted}

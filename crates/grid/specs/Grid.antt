@@ -33,13 +33,35 @@ grid-rows b = (b .n + b .wide - 1) / b .wide
 unfoldable pub row-long : Board → ℕ
 row-long b = b .wide * b .w
 
+-- THE RANGES, each once: "2 to 6", "1 to 65,536", "1 to 256" and "1 to 16" of the line above
+abbrev pub players-fit : (p : ℕ) → Bool
+players-fit p = leb 2 p && leb p 6
+
+abbrev pub positions-fit : (n : ℕ) → Bool
+positions-fit n = leb 1 n && leb n 65536
+
+abbrev pub width-fits : (m : ℕ) → Bool
+width-fits m = leb 1 m && leb m 256
+
+abbrev pub value-fits : (w : ℕ) → Bool
+value-fits w = leb 1 w && leb w 16
+
 -- 01, Key length: "1 p outside its range; 2 N; 3 μ; 4 w; 5 ν above 256", "The first number that fits is given"
 unfoldable pub board-refusal : Board → ℕ
 board-refusal b =
-    cond (not (leb 2 (b .p) && leb (b .p) 6)) 1
-    (cond (not (leb 1 (b .n) && leb (b .n) 65536)) 2
-    (cond (not (leb 1 (b .wide) && leb (b .wide) 256)) 3
-    (cond (not (leb 1 (b .w) && leb (b .w) 16)) 4 (cond (ltb 256 (grid-rows b)) 5 0))))
+    cond (not (players-fit (b .p))) 1
+    (cond (not (positions-fit (b .n))) 2
+    (cond (not (width-fits (b .wide))) 3 (cond (not (value-fits (b .w))) 4 (cond (ltb 256 (grid-rows b)) 5 0))))
+
+-- 01, Deal: "value, arrays, seeds, words, in bytes w, ν × J, ν × J × 32, (J−1) × μ × w"
+abbrev pub arrays-long : Board → ℕ
+arrays-long b = grid-rows b * columns b
+
+abbrev pub seeds-long : Board → ℕ
+seeds-long b = 32 * arrays-long b
+
+abbrev pub words-long : Board → ℕ
+words-long b = (columns b - 1) * row-long b
 
 -- 01: "bit i of a column is player i's mark", "bit 0 the lowest"; 003: A[i, j], whether party i is given the seed
 unfoldable pub bit : (byte i : ℕ) → Bool

@@ -1,24 +1,25 @@
 // A board's four numbers. Which boards are refused, by the numbers 1 to 5; and how many columns an array of an accepted board has, how
-// many grid rows it has, and how many bytes a row has. Any four numbers may come in: what is computed from a number comes after the
+// many grid rows it has, how many bytes a row has, and how long what Deal is lent is. Any four numbers may come in: what is computed from a number comes after the
 // test of its range, so nothing overflows and nothing is divided by zero.
 ghost use mathlib.Core.Path.{_≡_};
 ghost use mathlib.Core.Bool.{_&&_};
 ghost use Prim.Native.Nat.{_+_, _-_, _/_, _^_, _≤_};
 ghost use lib.Dec.{leb};
-ghost use Rattle.grid.specs.Grid.{board-refusal, columns, grid-rows, row-long};
+ghost use Rattle.grid.specs.Grid.{players-fit, positions-fit, width-fits, value-fits};
+ghost use Rattle.grid.specs.Grid.{board-refusal, columns, grid-rows, row-long, arrays-long, seeds-long, words-long};
 ghost use Rattle.grid.specs.Code.{board-of};
 
-pub const LEAST_PLAYERS: u32 = 2;
+const LEAST_PLAYERS: u32 = 2;
 
-pub const MOST_PLAYERS: u32 = 6;
+const MOST_PLAYERS: u32 = 6;
 
-pub const MOST_POSITIONS: u32 = 65536;
+const MOST_POSITIONS: u32 = 65536;
 
 pub const MOST_WIDTH: u32 = 256;
 
-pub const MOST_VALUE_BYTES: u32 = 16;
+const MOST_VALUE_BYTES: u32 = 16;
 
-pub const MOST_GRID_ROWS: u32 = 256;
+const MOST_GRID_ROWS: u32 = 256;
 
 pub const ACCEPTED: u32 = 0;
 
@@ -40,11 +41,42 @@ pub struct Board {
     pub value_bytes: u32,
 }
 
+// Bytes of a seed.
+pub const SEED_BYTES: usize = 32;
+
 // Whether a number lies in its range.
-pub fn within(low: u32, number: u32, high: u32) -> bool
+fn within(low: u32, number: u32, high: u32) -> bool
     ensures { λ r. ⌜ r ≡ (leb low number && leb number high) ⌝ }
 {
     if low <= number { number <= high } else { false }
+}
+
+// Whether there can be so many players.
+pub fn players_fit(players: u32) -> bool
+    ensures { λ r. ⌜ r ≡ players-fit players ⌝ }
+{
+    within(LEAST_PLAYERS, players, MOST_PLAYERS)
+}
+
+// Whether there can be so many positions.
+pub fn positions_fit(positions: u32) -> bool
+    ensures { λ r. ⌜ r ≡ positions-fit positions ⌝ }
+{
+    within(1, positions, MOST_POSITIONS)
+}
+
+// Whether a grid can be so wide.
+fn width_fits(width: u32) -> bool
+    ensures { λ r. ⌜ r ≡ width-fits width ⌝ }
+{
+    within(1, width, MOST_WIDTH)
+}
+
+// Whether a value can have so many bytes.
+pub fn value_bytes_fit(value_bytes: u32) -> bool
+    ensures { λ r. ⌜ r ≡ value-fits «value_bytes» ⌝ }
+{
+    within(1, value_bytes, MOST_VALUE_BYTES)
 }
 
 // Grid rows for so many positions: their number over the width, rounded up.
@@ -68,16 +100,16 @@ impl Board {
     pub fn refusal(self) -> u32
         ensures { λ r. ⌜ r ≡ board-refusal (board-of self) ⌝ }
     {
-        if !within(LEAST_PLAYERS, self.players, MOST_PLAYERS) {
+        if !players_fit(self.players) {
             return REFUSED_PLAYERS;
         }
-        if !within(1, self.positions, MOST_POSITIONS) {
+        if !positions_fit(self.positions) {
             return REFUSED_POSITIONS;
         }
-        if !within(1, self.width, MOST_WIDTH) {
+        if !width_fits(self.width) {
             return REFUSED_WIDTH;
         }
-        if !within(1, self.value_bytes, MOST_VALUE_BYTES) {
+        if !value_bytes_fit(self.value_bytes) {
             return REFUSED_VALUE_BYTES;
         }
         if MOST_GRID_ROWS < grid_rows_for(self.positions, self.width) {
@@ -108,5 +140,28 @@ impl Board {
         ensures { λ r. ⌜ r ≡ row-long (board-of self) ⌝ }
     {
         (self.width * self.value_bytes) as usize
+    }
+    // Bytes of all arrays: a column is a byte.
+    pub fn arrays_length(self) -> usize
+        requires { ⌜ board-refusal (board-of self) ≡ 0 ⌝ }
+        ensures { λ r. ⌜ r ≡ arrays-long (board-of self) ⌝ }
+    {
+        self.grid_rows() * self.columns()
+    }
+
+    // Bytes of all seeds: each column has one.
+    pub fn seeds_length(self) -> usize
+        requires { ⌜ board-refusal (board-of self) ≡ 0 ⌝ }
+        ensures { λ r. ⌜ r ≡ seeds-long (board-of self) ⌝ }
+    {
+        SEED_BYTES * self.arrays_length()
+    }
+
+    // Bytes of the lent words: all but the last.
+    pub fn words_length(self) -> usize
+        requires { ⌜ board-refusal (board-of self) ≡ 0 ⌝ }
+        ensures { λ r. ⌜ r ≡ words-long (board-of self) ⌝ }
+    {
+        (self.columns() - 1) * self.row_length()
     }
 }

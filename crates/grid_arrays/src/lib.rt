@@ -3,7 +3,7 @@
 ghost use mathlib.Core.Path.{_≡_};
 ghost use Prim.Native.Nat.{_*_, _%_, _^_};
 ghost use lib.ListN.{length};
-ghost use Rattle.grid.specs.Grid.{board-refusal, columns, grid-rows, bit, array-good, arrays-good};
+ghost use Rattle.grid.specs.Grid.{board-refusal, columns, grid-rows, bit, array-good, arrays-good, arrays-long};
 ghost use Rattle.grid.specs.Moving.{turned};
 ghost use Rattle.grid_arrays.specs.Checking.{fitting};
 ghost use Rattle.grid.specs.Code.{board-of};
@@ -68,7 +68,7 @@ fn array_good(board: Board, odd: bool, array: &[u8]) -> bool
 
 // Whether the arrays of all grid rows are as they must be: an odd one in the point's grid row, even ones in the others.
 pub fn arrays_good(board: Board, point: u32, arrays: &[u8]) -> bool
-    requires { ⌜ (board-refusal (board-of board) ≡ 0) × (length (now arrays) ≡ grid-rows (board-of board) * columns (board-of board)) ⌝ }
+    requires { ⌜ (board-refusal (board-of board) ≡ 0) × (length (now arrays) ≡ arrays-long (board-of board)) ⌝ }
     ensures { λ r. ⌜ r ≡ arrays-good (grid-rows (board-of board)) 0 (board-of board) point (now (arrays .entry)) ⌝ }
 {
     let grid_rows = board.grid_rows();

@@ -6,56 +6,25 @@ use mathlib.Core.List.{List, _++_}
 use Prim.Native.Nat.{ℕ, zero, suc, _+_, _*_, _-_, _≤_, _<_}
 use native.Mathlib.Nat.{mul-le-mul-right}
 use native.Mathlib.Omega.{arith}
-use borrow.Author.Tests.{eq-eqb, ne-eqb, le-leb, lt-leb, le-ltb, lt-ltb, eqb-true, eqb-false, leb-false, ltb-false, not-true, not-false}
-use lib.Dec.{eqb, leb, ltb}
+use borrow.Author.Tests.{eq-eqb, ne-eqb, le-ltb, lt-ltb, eqb-true, ltb-false, not-true, not-false}
+use lib.Dec.{eqb, ltb}
 use lib.ListN.{length, take, drop, length-drop}
 use lib.Seq.{drop-drop, length-take-le}
 use Rattle.xor.proofs.Laws.{and-left, and-right}
+use Rattle.writer.proofs.Laws.{in-front-part}
 use Rattle.grid.specs.Grid.{Board, board, board-refusal, grid-rows}
 use Rattle.grid.specs.Code.{board-of}
+use Rattle.grid.specs.declared.board.Board as code
 use Rattle.grid.proofs.Facts.{board-in}
-use Rattle.keys.specs.Keys.{head-in, key-long, marks-good, key-refusal}
-use Rattle.key_header.specs.Answers.{heading-in}
-use Rattle.key_header.specs.declared.Reader.{Reader}
-use Rattle.key_header.specs.declared.Header.{Header}
+use Rattle.keys.specs.Keys.{head-in, or-else, head-refusal, key-long, marks-good, Accepted-as}
+use Rattle.keys.proofs.Accepted.{passed, last-passed, first-fits, next-fits, neither, head-fine, key-accepted}
+use Rattle.key_header.specs.Answers.{checked-by}
 use Rattle.key_header.specs.declared.Heading.{Heading}
-use Rattle.keys.proofs.Accepted.{passed, last-passed, refusing, key-accepted}
+use Rattle.key_header.specs.declared.KeyCheck.{KeyCheck}
+use Rattle.key_header.proofs.Reading.{refused-says, accepted-says}
 use Rattle.key_lengths.proofs.Lengths.{long-is}
-use Rattle.key_header.proofs.Reading.{heading-says, heading-none}
-use Rattle.call_answers.specs.Answers.{or-else}
-use Rattle.join_keys_call.specs.JoinKeys.{numbers-refusal, head-refusal, same-board, place-refusal, places-refusal, keys-refusal, joined-table, Join-keys-says}
-use Rattle.call_answers.proofs.Answering.{put-number, put-done, first-fits, next-fits, in-front-part}
-
--- a number, or else the next: where neither fits
-pub neither : (a b : ℕ) → or-else a b ≡ 0 → (a ≡ 0) × (b ≡ 0)
-unfolding or-else
-neither a b h = go (eqb a 0) refl
-  where
-    go : (t : Bool) → eqb a 0 ≡ t → (a ≡ 0) × (b ≡ 0)
-    go true e = let none = eqb-true a 0 e in (none, sym (next-fits a b none) ∙ h)
-    go false e = let a-is : a ≡ 0 = sym (first-fits a b (eqb-false a 0 e)) ∙ h in absurd (eqb-false a 0 e a-is)
-
--- A HEADER'S OWN NUMBERS BEHIND 10
-
-module _ (b : Board) (i : ℕ) where
-  pub numbers-board : (n : ℕ) → n ≡ board-refusal b → (n ≡ 0 → ⊥) → n ≡ numbers-refusal b i
-  unfolding numbers-refusal
-  numbers-board n e h = rw (← e, ne-eqb n 0 h)
-
-  pub numbers-player : board-refusal b ≡ 0 → b .p ≤ i → 11 ≡ numbers-refusal b i
-  unfolding numbers-refusal
-  numbers-player e h = rw (e, le-leb (b .p) i h)
-
-  pub numbers-none : board-refusal b ≡ 0 → i < b .p → 0 ≡ numbers-refusal b i
-  unfolding numbers-refusal
-  numbers-none e h = rw (e, lt-leb (b .p) i h)
-
-  pub numbers-fine : numbers-refusal b i ≡ 0 → (board-refusal b ≡ 0) × (i < b .p)
-  unfolding numbers-refusal
-  numbers-fine h =
-      let first = passed (not (eqb (board-refusal b) 0)) (board-refusal b) _ (refusing (board-refusal b)) h in
-      let own = passed (leb (b .p) i) 11 0 (λ t n. omega arith) (first .1) in
-      (eqb-true (board-refusal b) 0 (not-false (eqb (board-refusal b) 0) (first .0)), leb-false (b .p) i (own .0))
+use Rattle.call_answers.proofs.Answering.{put-number, put-done}
+use Rattle.join_keys_call.specs.JoinKeys.{same-board, place-refusal, places-refusal, keys-refusal, joined-table, Join-keys-says}
 
 -- THE SAME BOARD
 
@@ -101,38 +70,31 @@ first-other s t r e h = let no : s ≡ false = sym e ∙ h in rw no
 -- ONE KEY AT ITS PLACE
 
 module _ (b : Board) (i : ℕ) (ks : List ℕ) where
-  pub place-number : Heading.Broken ≡ heading-in ks → 10 ≡ place-refusal b i ks
-  unfolding place-refusal head-refusal or-else
-  place-number e = rw (heading-none ks e)
+  pub place-header : (n : ℕ) → KeyCheck.Refused n ≡ checked-by (head-refusal (head-in ks)) ks → n ≡ place-refusal b i ks
+  unfolding place-refusal
+  place-header n e = let says = refused-says ks n _ e in sym (first-fits _ _ (says .1) ∙ says .0)
 
-  module _ (h : Header) (next : Reader) (read : Heading.Whole h next ≡ heading-in ks) where
-    chain : place-refusal b i ks
-        ≡ or-else (numbers-refusal (board-of (h .board)) (h .player))
-        (cond (not (same-board (board-of (h .board)) b && eqb (h .player) i)) 15 (cond (marks-good (grid-rows b) b (drop (next .at) ks)) 0 13))
-    unfolding place-refusal head-refusal
-    chain = rw (heading-says ks h next read)
+  module _ (h : Heading) (read : KeyCheck.Accepted h ≡ checked-by (head-refusal (head-in ks)) ks) (same : Bool)
+      (test : same ≡ (same-board (board-of (h .header .board)) b && eqb (h .header .player) i))
+    where
+      chain : place-refusal b i ks ≡ cond (not same) 15 (cond (marks-good (grid-rows b) b (drop (h .end) ks)) 0 13)
+      unfolding place-refusal
+      chain =
+          let says = accepted-says ks h _ read in
+          next-fits (head-refusal (head-in ks)) _ (says .none) ∙ rw (says .board-is, says .player-is, says .rest-is, ← test)
 
-    pub place-numbers : (n : ℕ) → n ≡ numbers-refusal (board-of (h .board)) (h .player) → (n ≡ 0 → ⊥) → n ≡ place-refusal b i ks
-    place-numbers n e z = e ∙ sym (first-fits (numbers-refusal (board-of (h .board)) (h .player)) _ (λ q. z (e ∙ q))) ∙ sym chain
+      pub place-other : not same ≡ true → 15 ≡ place-refusal b i ks
+      place-other z = sym (chain ∙ rw (not-true same z))
 
-    module _ (fine : numbers-refusal (board-of (h .board)) (h .player) ≡ 0) (same : Bool)
-        (test : same ≡ (same-board (board-of (h .board)) b && eqb (h .player) i))
-      where
-        chain-same : place-refusal b i ks ≡ cond (not same) 15 (cond (marks-good (grid-rows b) b (drop (next .at) ks)) 0 13)
-        chain-same = chain ∙ next-fits (numbers-refusal (board-of (h .board)) (h .player)) _ fine ∙ rw (← test)
+      module _ (own : not same ≡ false) (part : List ℕ) (cut : part ≡ drop (h .end) ks) (marks : Bool) (seen : marks ≡ marks-good (grid-rows b) b part) where
+        chain-marks : place-refusal b i ks ≡ cond marks 0 13
+        chain-marks = chain ∙ rw (not-false same own, ← cut, ← seen)
 
-        pub place-other : not same ≡ true → 15 ≡ place-refusal b i ks
-        place-other z = sym (chain-same ∙ rw (not-true same z))
+        pub place-marks : not marks ≡ true → 13 ≡ place-refusal b i ks
+        place-marks z = sym (chain-marks ∙ rw (not-true marks z))
 
-        module _ (own : not same ≡ false) (part : List ℕ) (cut : part ≡ drop (next .at) ks) (marks : Bool) (seen : marks ≡ marks-good (grid-rows b) b part) where
-          chain-marks : place-refusal b i ks ≡ cond marks 0 13
-          chain-marks = chain-same ∙ rw (not-false same own, ← cut, ← seen)
-
-          pub place-marks : not marks ≡ true → 13 ≡ place-refusal b i ks
-          place-marks z = sym (chain-marks ∙ rw (not-true marks z))
-
-          pub place-none : not marks ≡ false → 0 ≡ place-refusal b i ks
-          place-none z = sym (chain-marks ∙ rw (not-false marks z))
+        pub place-none : not marks ≡ false → 0 ≡ place-refusal b i ks
+        place-none z = sym (chain-marks ∙ rw (not-false marks z))
 
 -- EACH KEY IN TURN
 
@@ -181,30 +143,30 @@ all-passed {p} {place} b bs before h = let none : p - place ≡ 0 = omega arith 
 
 -- where none is refused, each key at its place is an accepted key of the first one's board and of its place's player
 pub place-accepted : (b : Board) (i : ℕ) (ks : List ℕ) → place-refusal b i ks ≡ 0 → length ks ≡ key-long b
-    → (key-refusal ks ≡ 0) × (head-in ks .board ≡ b) × (head-in ks .player ≡ i)
-unfolding place-refusal head-refusal
+    → Accepted-as b i ks
+unfolding place-refusal
 place-accepted b i ks none long =
     let h = head-in ks in
     let both = neither (head-refusal h) _ none in
-    let read = passed (not (h .good)) 10 _ (λ t n. omega arith) (both .0) in
-    let own = numbers-fine (h .board) (h .player) (read .1) in
+    let own = head-fine h (both .0) in
     let here = passed (not (same-board (h .board) b && eqb (h .player) i)) 15 _ (λ t n. omega arith) (both .1) in
     let both-are = not-false (same-board (h .board) b && eqb (h .player) i) (here .0) in
     let same : h .board ≡ b = boards-same (h .board) b (and-left (same-board (h .board) b) (eqb (h .player) i) both-are) in
     let marks = last-passed (marks-good (grid-rows b) b (h .rest)) 13 (omega arith) (here .1) in
-    let board = board-in (h .board) (own .0) in
-    let small : h .player < 128 = omega (arith, own .1, board .players-most) in (
-      key-accepted ks
+    let board = board-in (h .board) (own .1) in
+    let small : h .player < 128 = omega (arith, own .2, board .players-most) in
+    record {
+      none = key-accepted ks
           (record {
-            header-good = not-false (h .good) (read .0);
+            header-good = own .0;
             board = board;
-            player = own .1;
+            player = own .2;
             long = long ∙ ap key-long (sym same) ∙ sym (long-is (h .board) (h .player) small);
             marks = subst (λ (c : Board). marks-good (grid-rows c) c (h .rest) ≡ true) (sym same) marks;
-          }),
-      same,
-      eqb-true (h .player) i (and-right (same-board (h .board) b) (eqb (h .player) i) both-are),
-    )
+          });
+      board-is = same;
+      player-is = eqb-true (h .player) i (and-right (same-board (h .board) b) (eqb (h .player) i) both-are);
+    }
 
 pub places-each : (k i : ℕ) (b : Board) (bs : List ℕ) → places-refusal k i b bs ≡ 0 → (m : ℕ) → m < k
     → place-refusal b (i + m) (take (key-long b) (drop (m * key-long b) bs)) ≡ 0
@@ -221,8 +183,7 @@ places-each (suc k) i b bs none (suc m) h =
 
 -- the key before `end`, counted from the last one down
 pub key-before : (b : Board) (bs : List ℕ) (p left long end : ℕ) → length bs ≡ p * key-long b → places-refusal p 0 b bs ≡ 0 → long ≡ key-long b
-    → 0 < left → left ≤ p → end ≡ left * long → let ks = take (end - (end - long)) (drop (end - long) bs) in
-    (key-refusal ks ≡ 0) × (head-in ks .board ≡ b) × (head-in ks .player ≡ left - 1)
+    → 0 < left → left ≤ p → end ≡ left * long → Accepted-as b (left - 1) (take (end - (end - long)) (drop (end - long) bs))
 key-before b bs p zero long end whole none k pos le e = let no : ⊥ = omega arith in absurd no
 key-before b bs p (suc m) long end whole none k pos le e =
     let room : suc m * key-long b ≤ p * key-long b = mul-le-mul-right (key-long b) le in
@@ -237,86 +198,65 @@ key-before b bs p (suc m) long end whole none k pos le e =
 
 -- THE WHOLE CHAIN
 
-pub keys-number : (bs : List ℕ) (room : ℕ) → Heading.Broken ≡ heading-in bs → keys-refusal bs room ≡ 10
-unfolding keys-refusal head-refusal or-else
-keys-number bs room e = rw (heading-none bs e)
+pub keys-header : (bs : List ℕ) (room n : ℕ) → KeyCheck.Refused n ≡ checked-by (head-refusal (head-in bs)) bs → (keys-refusal bs room ≡ n) × (n ≡ 0 → ⊥)
+unfolding keys-refusal
+keys-header bs room n e = let says = refused-says bs n _ e in (first-fits _ _ (says .1) ∙ says .0, λ z. says .1 (says .0 ∙ z))
 
-module _ (bs : List ℕ) (h : Header) (good : head-in bs .good ≡ true) (board-is : head-in bs .board ≡ board-of (h .board))
-    (player-is : head-in bs .player ≡ h .player) (room : ℕ)
-  where
-    b : Board
-    b = board-of (h .board)
+module _ (bs : List ℕ) (c : code.Board) (own : head-refusal (head-in bs) ≡ 0) (board-is : head-in bs .board ≡ board-of c) (room : ℕ) where
+  -- the first header's board is accepted
+  pub first-board : board-refusal (board-of c) ≡ 0
+  first-board = rw (← board-is) (head-fine (head-in bs) own .1)
 
-    whole : keys-refusal bs room
-        ≡ or-else (numbers-refusal b (h .player))
-        (cond (not (eqb (length bs) (b .p * key-long b))) 12 (or-else (places-refusal (b .p) 0 b bs) (cond (ltb room (b .n * b .w)) 9 0)))
-    unfolding keys-refusal head-refusal b
-    whole = rw (good, board-is, player-is)
+  whole : keys-refusal bs room
+      ≡ cond (not (eqb (length bs) (c .players * key-long (board-of c)))) 12
+      (or-else (places-refusal (c .players) 0 (board-of c) bs) (cond (ltb room (c .positions * c .«value_bytes»)) 9 0))
+  unfolding keys-refusal board
+  whole = next-fits (head-refusal (head-in bs)) _ own ∙ rw board-is
 
-    pub keys-numbers : (n : ℕ) → n ≡ numbers-refusal (board-of (h .board)) (h .player) → (n ≡ 0 → ⊥) → n ≡ keys-refusal bs room
-    unfolding b
-    keys-numbers n e z = e ∙ sym (first-fits (numbers-refusal (board-of (h .board)) (h .player)) _ (λ q. z (e ∙ q))) ∙ sym whole
+  -- what is left where none fits
+  pub keys-fit : keys-refusal bs room ≡ 0
+      → (length bs ≡ c .players * key-long (board-of c)) × (places-refusal (c .players) 0 (board-of c) bs ≡ 0) × (c .positions * c .«value_bytes» ≤ room)
+  keys-fit none =
+      let asked = c .players * key-long (board-of c) in
+      let long = passed (not (eqb (length bs) asked)) 12 _ (λ t n. omega arith) (sym whole ∙ none) in
+      let each = neither (places-refusal (c .players) 0 (board-of c) bs) _ (long .1) in
+      let last = passed (ltb room (c .positions * c .«value_bytes»)) 9 0 (λ t n. omega arith) (each .1) in
+      (eqb-true (length bs) asked (not-false (eqb (length bs) asked) (long .0)), each .0, ltb-false room (c .positions * c .«value_bytes») (last .0))
 
-    -- what is left where none fits
-    pub keys-fit : keys-refusal bs room ≡ 0
-        → (board-refusal (board-of (h .board)) ≡ 0) × (length bs ≡ h .board .players * key-long (board-of (h .board)))
-        × (places-refusal (h .board .players) 0 (board-of (h .board)) bs ≡ 0) × (h .board .positions * h .board .«value_bytes» ≤ room)
-    unfolding b board
-    keys-fit none =
-        let own = neither (numbers-refusal b (h .player)) _ (sym whole ∙ none) in
-        let asked = h .board .players * key-long (board-of (h .board)) in
-        let long = passed (not (eqb (length bs) asked)) 12 _ (λ t n. omega arith) (own .1) in
-        let each = neither (places-refusal (h .board .players) 0 (board-of (h .board)) bs) _ (long .1) in
-        let last = passed (ltb room (h .board .positions * h .board .«value_bytes»)) 9 0 (λ t n. omega arith) (each .1) in (
-          numbers-fine (board-of (h .board)) (h .player) (own .0) .0,
-          eqb-true (length bs) asked (not-false (eqb (length bs) asked) (long .0)),
-          each .0,
-          ltb-false room (h .board .positions * h .board .«value_bytes») (last .0),
-        )
+  module _ (long : ℕ) (k : long ≡ key-long (board-of c)) where
+    pub keys-length : (length bs ≡ c .players * long → ⊥) → 12 ≡ keys-refusal bs room
+    keys-length z = sym (whole ∙ rw (← k, ne-eqb (length bs) (c .players * long) z))
 
-    module _ (fine : numbers-refusal (board-of (h .board)) (h .player) ≡ 0) (long : ℕ) (k : long ≡ key-long (board-of (h .board))) where
-      behind : keys-refusal bs room
-          ≡ cond (not (eqb (length bs) (h .board .players * long))) 12
-          (or-else (places-refusal (h .board .players) 0 (board-of (h .board)) bs) (cond (ltb room (h .board .positions * h .board .«value_bytes»)) 9 0))
-      unfolding b board
-      behind = whole ∙ next-fits (numbers-refusal (board-of (h .board)) (h .player)) _ fine ∙ rw (← k)
+    module _ (asked : length bs ≡ c .players * long) where
+      behind : keys-refusal bs room ≡ or-else (places-refusal (c .players) 0 (board-of c) bs) (cond (ltb room (c .positions * c .«value_bytes»)) 9 0)
+      behind = whole ∙ rw (← k, eq-eqb (length bs) (c .players * long) asked)
 
-      pub keys-length : (length bs ≡ h .board .players * long → ⊥) → 12 ≡ keys-refusal bs room
-      keys-length z = sym (behind ∙ rw (ne-eqb (length bs) (h .board .players * long) z))
+      pub keys-places : (n : ℕ) → n ≡ places-refusal (c .players) 0 (board-of c) bs → (n ≡ 0 → ⊥) → n ≡ keys-refusal bs room
+      keys-places n e z = sym (behind ∙ rw (← e) (first-fits n _ z))
 
-      module _ (asked : length bs ≡ h .board .players * long) where
-        pub keys-places : (n : ℕ) → n ≡ places-refusal (h .board .players) 0 (board-of (h .board)) bs → (n ≡ 0 → ⊥) → n ≡ keys-refusal bs room
-        keys-places n e z =
-            sym (behind ∙ rw (eq-eqb (length bs) (h .board .players * long) asked, ← e) (first-fits n _ z))
+      module _ (passed-all : places-refusal (c .players) 0 (board-of c) bs ≡ 0) where
+        last : keys-refusal bs room ≡ cond (ltb room (c .positions * c .«value_bytes»)) 9 0
+        last = behind ∙ next-fits _ _ passed-all
 
-        module _ (passed-all : places-refusal (h .board .players) 0 (board-of (h .board)) bs ≡ 0) where
-          last : keys-refusal bs room ≡ cond (ltb room (h .board .positions * h .board .«value_bytes»)) 9 0
-          last = behind ∙ rw (eq-eqb (length bs) (h .board .players * long) asked) (next-fits _ _ passed-all)
+        pub keys-room : room < c .positions * c .«value_bytes» → 9 ≡ keys-refusal bs room
+        keys-room z = sym (last ∙ rw (lt-ltb room (c .positions * c .«value_bytes») z))
 
-          pub keys-room : room < h .board .positions * h .board .«value_bytes» → 9 ≡ keys-refusal bs room
-          keys-room z = sym (last ∙ rw (lt-ltb room (h .board .positions * h .board .«value_bytes») z))
-
-          pub keys-none : h .board .positions * h .board .«value_bytes» ≤ room → 0 ≡ keys-refusal bs room
-          keys-none z = sym (last ∙ rw (le-ltb room (h .board .positions * h .board .«value_bytes») z))
+        pub keys-none : c .positions * c .«value_bytes» ≤ room → 0 ≡ keys-refusal bs room
+        keys-none z = sym (last ∙ rw (le-ltb room (c .positions * c .«value_bytes») z))
 
 -- WHAT JOIN KEYS SAYS
 
-pub heading-facts : (ks : List ℕ) (h : Header) (next : Reader) → Heading.Whole h next ≡ heading-in ks
-    → (head-in ks .good ≡ true) × (head-in ks .board ≡ board-of (h .board)) × (head-in ks .player ≡ h .player)
-heading-facts ks h next e =
-    let read = heading-says ks h next e in (ap (λ x. x .good) read, ap (λ x. x .board) read, ap (λ x. x .player) read)
-
 module _ (bs o : List ℕ) where
-  pub join-number-refused : Heading.Broken ≡ heading-in bs → Join-keys-says bs 10 o o
+  pub join-header-refused : (n : ℕ) → KeyCheck.Refused n ≡ checked-by (head-refusal (head-in bs)) bs → Join-keys-says bs n o o
   unfolding Join-keys-says
-  join-number-refused e = put-number _ 10 _ o (keys-number bs (length o) e) (λ z. omega arith)
+  join-header-refused n e = let number = keys-header bs (length o) n e in put-number _ n _ o (number .0) (number .1)
 
   pub join-refused : (r : ℕ) → r ≡ keys-refusal bs (length o) → (r ≡ 0 → ⊥) → Join-keys-says bs r o o
   unfolding Join-keys-says
   join-refused r e h = put-number _ r _ o (sym e) h
 
-  pub join-done : (h : Header) (last : List ℕ) (k : ℕ) → head-in bs .board ≡ board-of (h .board) → keys-refusal bs (length o) ≡ 0 → length last ≡ k
-      → last ≡ joined-table (h .board .players) (board-of (h .board)) bs → Join-keys-says bs 0 o (last ++ drop k o)
+  pub join-done : (c : code.Board) (last : List ℕ) (k : ℕ) → head-in bs .board ≡ board-of c → keys-refusal bs (length o) ≡ 0 → length last ≡ k
+      → last ≡ joined-table (c .players) (board-of c) bs → Join-keys-says bs 0 o (last ++ drop k o)
   unfolding Join-keys-says board
-  join-done h last k board-is none long e =
-      put-done _ _ 0 o (last ++ drop k o) none refl (in-front-part _ last o k long (e ∙ rw board-is))
+  join-done c last k board-is none long e =
+      put-done _ _ 0 o (last ++ drop k o) none refl (in-front-part (joined-table (head-in bs .board .p) (head-in bs .board) bs) last o k long (e ∙ rw board-is))

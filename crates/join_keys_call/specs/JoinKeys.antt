@@ -2,20 +2,13 @@
 use mathlib.Core.Bool.{Bool, _&&_, not, cond}
 use mathlib.Core.List.{List}
 use Prim.Native.Nat.{ℕ, zero, suc, _*_}
-use lib.Dec.{ltb, leb, eqb}
+use lib.Dec.{ltb, eqb}
 use lib.ListN.{length, take, drop}
 use Rattle.xor.specs.Xor.{xors, zeros}
-use Rattle.grid.specs.Grid.{Board, board-refusal, grid-rows}
-use Rattle.keys.specs.Keys.{Head, head-in, key-long, marks-good, table}
-use Rattle.call_answers.specs.Answers.{or-else, rule, Put-says}
-
--- a header's numbers behind 10: "1 to 5, 11"
-unfoldable pub numbers-refusal : Board → (player : ℕ) → ℕ
-numbers-refusal b i = cond (not (eqb (board-refusal b) 0)) (board-refusal b) (cond (leb (b .p) i) 11 0)
-
--- a header's own numbers: "10, 1 to 5, 11"
-unfoldable pub head-refusal : Head → ℕ
-head-refusal h = cond (not (h .good)) 10 (numbers-refusal (h .board) (h .player))
+use Rattle.grid.specs.Grid.{Board, grid-rows}
+use Rattle.keys.specs.Keys.{head-in, or-else, head-refusal, key-long, marks-good, table}
+use Rattle.call_answers.specs.Answers.{Put-says}
+use Rattle.seed_rows.specs.Rows.{rule}
 
 -- the four numbers of two boards are the same
 unfoldable pub same-board : (b c : Board) → Bool

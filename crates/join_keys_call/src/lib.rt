@@ -1,10 +1,9 @@
 // Join keys, behind its refusals. Assumes nothing.
 use call_answers::refusals::ACCEPTED;
-use call_answers::refusals::REFUSED_NUMBER;
 use grid::board::Board;
-use key_header::Header;
-use key_header::Heading;
-use key_header::header_in;
+use key_header::KeyCheck;
+use key_header::check_header;
+use key_lengths::body_length;
 use key_lengths::key_length;
 ghost use mathlib.Core.Path.{_≡_};
 ghost use Prim.Native.Nat.{_*_};
@@ -18,7 +17,7 @@ mod places;
 
 use places::keys_refusal;
 
-// Fills `out` with the XOR of the tables of all keys, each accepted at its place.
+// Fills `out` with the XOR of the tables of all keys, each accepted at its place. What stands behind a key's header ends where the key does.
 fn joined_tables(board: Board, keys: &[u8], out: &mut [u8])
     requires { ⌜ (board-refusal (board-of board) ≡ 0) × (length (now keys) ≡ board .players * key-long (board-of board))
         × (places-refusal (board .players) 0 (board-of board) (now keys) ≡ 0) × (length (now out) ≡ board .positions * board .«value_bytes») ⌝ }
@@ -26,14 +25,13 @@ fn joined_tables(board: Board, keys: &[u8], out: &mut [u8])
 {
     writer::clear(out);
     let long = key_length(board);
+    let body = body_length(board);
     let mut player = board.players;
     let mut end = keys.len();
     while 0 < player {
+        open_key::add_table(&keys[end - body..end], board, out);
+        end -= long;
         player -= 1;
-        let start = end - long;
-        let header = Header { board, player };
-        open_key::add_table(&keys[start..end], header, out);
-        end = start;
     }
 }
 
@@ -41,14 +39,16 @@ fn joined_tables(board: Board, keys: &[u8], out: &mut [u8])
 pub fn join_keys(keys: &[u8], output: &mut [u8]) -> u32
     ensures { λ r. ⌜ Join-keys-says (now (keys .entry)) r (now (output .entry)) (now (output .exit)) ⌝ }
 {
-    let Heading::Whole(header, _) = header_in(keys) else {
-        return REFUSED_NUMBER;
+    let heading = match check_header(keys) {
+        KeyCheck::Refused(number) => return number,
+        KeyCheck::Accepted(heading) => heading,
     };
-    let refusal = keys_refusal(header, keys, output.len());
+    let header = heading.header;
+    let board = header.board;
+    let refusal = keys_refusal(board, keys, output.len());
     if refusal != ACCEPTED {
         return refusal;
     }
-    let board = header.board;
     let table = (board.positions * board.value_bytes) as usize;
     joined_tables(board, keys, &mut output[..table]);
     ACCEPTED

@@ -2,41 +2,24 @@
 use call_answers::refusals::ACCEPTED;
 use call_answers::refusals::REFUSED_LENGTH;
 use call_answers::refusals::REFUSED_MARKS;
-use call_answers::refusals::REFUSED_NUMBER;
 use call_answers::refusals::REFUSED_PLACE;
-use call_answers::refusals::REFUSED_PLAYER;
 use call_answers::refusals::REFUSED_ROOM;
 use grid::board::Board;
 use key_header::Header;
-use key_header::Heading;
-use key_header::header_in;
-use key_header::part_from;
+use key_header::KeyCheck;
+use key_header::check_header;
 use key_lengths::key_length;
 use key_marks::marks_good;
+use reader::part_from;
 ghost use mathlib.Core.Path.{_≡_};
-ghost use mathlib.Core.Bool.{true, _&&_};
+ghost use mathlib.Core.Bool.{_&&_};
 ghost use Prim.Native.Nat.{_*_};
 ghost use lib.Dec.{eqb};
 ghost use lib.ListN.{length};
 ghost use Rattle.grid.specs.Grid.{board-refusal};
 ghost use Rattle.grid.specs.Code.{board-of};
-ghost use Rattle.keys.specs.Keys.{head-in, key-long};
-ghost use Rattle.join_keys_call.specs.JoinKeys.{numbers-refusal, same-board, place-refusal, places-refusal, keys-refusal};
-
-// A header's own numbers behind 10: 1 to 5, 11.
-pub fn numbers_refusal(header: Header) -> u32
-    ensures { λ r. ⌜ r ≡ numbers-refusal (board-of («header» .board)) («header» .player) ⌝ }
-{
-    let board = header.board;
-    let refusal = board.refusal();
-    if refusal != ACCEPTED {
-        return refusal;
-    }
-    if board.players <= header.player {
-        return REFUSED_PLAYER;
-    }
-    ACCEPTED
-}
+ghost use Rattle.keys.specs.Keys.{head-in, head-refusal, key-long};
+ghost use Rattle.join_keys_call.specs.JoinKeys.{same-board, place-refusal, places-refusal, keys-refusal};
 
 // Whether two boards have the same four numbers.
 fn same_board(first: Board, second: Board) -> bool
@@ -71,18 +54,14 @@ fn place_refusal(board: Board, place: u32, key: &[u8]) -> u32
     requires { ⌜ board-refusal (board-of board) ≡ 0 ⌝ }
     ensures { λ r. ⌜ r ≡ place-refusal (board-of board) place (now (key .entry)) ⌝ }
 {
-    let Heading::Whole(header, reader) = header_in(key) else {
-        return REFUSED_NUMBER;
+    let heading = match check_header(key) {
+        KeyCheck::Refused(number) => return number,
+        KeyCheck::Accepted(heading) => heading,
     };
-    let refusal = numbers_refusal(header);
-    if refusal != ACCEPTED {
-        return refusal;
-    }
-    if !in_place(header, board, place) {
+    if !in_place(heading.header, board, place) {
         return REFUSED_PLACE;
     }
-    let at = reader.at;
-    if !marks_good(part_from(key, at), board) {
+    if !marks_good(part_from(key, heading.end), board) {
         return REFUSED_MARKS;
     }
     ACCEPTED
@@ -108,16 +87,11 @@ fn places_refusal(board: Board, keys: &[u8]) -> u32
     ACCEPTED
 }
 
-// All numbers behind the first header's 10, in their order.
-pub fn keys_refusal(header: Header, keys: &[u8], room: usize) -> u32
-    requires { ⌜ (head-in (now keys) .good ≡ true) × (head-in (now keys) .board ≡ board-of («header» .board)) × (head-in (now keys) .player ≡ «header» .player) ⌝ }
+// All numbers behind the first header's own, in their order.
+pub fn keys_refusal(board: Board, keys: &[u8], room: usize) -> u32
+    requires { ⌜ (head-refusal (head-in (now keys)) ≡ 0) × (head-in (now keys) .board ≡ board-of board) ⌝ }
     ensures { λ r. ⌜ r ≡ keys-refusal (now (keys .entry)) room ⌝ }
 {
-    let refusal = numbers_refusal(header);
-    if refusal != ACCEPTED {
-        return refusal;
-    }
-    let board = header.board;
     if keys.len() != board.players as usize * key_length(board) {
         return REFUSED_LENGTH;
     }

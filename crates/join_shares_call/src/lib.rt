@@ -4,10 +4,8 @@ use call_answers::refusals::REFUSED_LENT;
 use call_answers::refusals::REFUSED_PLAYERS;
 use call_answers::refusals::REFUSED_ROOM;
 use call_answers::refusals::REFUSED_VALUE_BYTES;
-use grid::board::LEAST_PLAYERS;
-use grid::board::MOST_PLAYERS;
-use grid::board::MOST_VALUE_BYTES;
-use grid::board::within;
+use grid::board::players_fit;
+use grid::board::value_bytes_fit;
 ghost use mathlib.Core.Path.{_≡_};
 ghost use Prim.Native.Nat.{_*_};
 ghost use lib.ListN.{length};
@@ -17,10 +15,10 @@ ghost use Rattle.call_answers.specs.Answers.{joined-shares, shares-refusal, Joi
 fn shares_refusal(players: u32, value_bytes: u32, shares: usize, room: usize) -> u32
     ensures { λ r. ⌜ r ≡ shares-refusal players «value_bytes» shares room ⌝ }
 {
-    if !within(LEAST_PLAYERS, players, MOST_PLAYERS) {
+    if !players_fit(players) {
         return REFUSED_PLAYERS;
     }
-    if !within(1, value_bytes, MOST_VALUE_BYTES) {
+    if !value_bytes_fit(value_bytes) {
         return REFUSED_VALUE_BYTES;
     }
     let share = value_bytes as usize;

@@ -1,100 +1,74 @@
--- The chain of a key's refusals, 10, 1 to 5, 11, 12, 13: what each test answers, and what an accepted key keeps to.
--- Assumes nothing.
-use mathlib.Core.Path.{_≡_, sym, _∙_}
+-- The chain of a key's refusals: the header's own, 12, 13. What each test answers, and what the answer tells. Assumes nothing.
+use mathlib.Core.Path.{_≡_, refl, sym, _∙_}
 use mathlib.Core.Bool.{Bool, true, false, not, cond}
-use mathlib.Core.List.{List, [], _∷_}
-use Prim.Native.Nat.{ℕ, suc, _+_, _*_, _-_, _≤_, _<_, min}
-use native.Mathlib.Decide.{decLe}
+use mathlib.Core.List.{List, []}
+use Prim.Native.Nat.{ℕ, _<_}
 use native.Mathlib.Omega.{arith}
-use borrow.Author.Tests.{eq-eqb, ne-eqb, le-leb, lt-leb, not-true, not-false}
-use lib.Dec.{eqb, leb}
+use borrow.Author.Tests.{eq-eqb, ne-eqb, eqb-true, not-true, not-false}
+use lib.Dec.{eqb}
 use lib.ListN.{length, drop}
-use Rattle.grid.specs.Grid.{Board, board, board-refusal, columns, grid-rows, row-long}
+use Rattle.grid.specs.Grid.{board, board-refusal, grid-rows}
 use Rattle.grid.specs.Code.{board-of}
-use Rattle.grid.proofs.Facts.{board-in}
-use Rattle.keys.specs.Keys.{header, stride, key-long, marks-good, key-refusal}
-use Rattle.key_header.specs.Answers.{heading-in}
-use Rattle.key_check.specs.Checked.{head-numbers, checked-as, key-checked}
-use Rattle.key_header.specs.declared.Reader.{Reader}
-use Rattle.key_header.specs.declared.Header.{Header}
+use Rattle.grid.proofs.Facts.{board-in, board-accepted}
+use Rattle.keys.specs.Keys.{head-in, head-refusal, key-long, marks-good, key-refusal}
+use Rattle.keys.proofs.Accepted.{first-fits, next-fits, head-fine, key-in}
+use Rattle.key_header.specs.Answers.{header-of, header-numbers, heading-in, checked-by}
 use Rattle.key_header.specs.declared.Heading.{Heading}
-use Rattle.key_check.specs.declared.check.KeyCheck.{KeyCheck}
-use Rattle.key_header.proofs.Reading.{heading-says, heading-none}
+use Rattle.key_header.specs.declared.KeyCheck.{KeyCheck}
+use Rattle.key_header.proofs.Reading.{Says, refused-by, refused-says, heading-same, accepted-says, accepted-by}
 use Rattle.key_lengths.proofs.Lengths.{long-is}
+use Rattle.key_check.specs.Checked.{head-numbers, checked-as, key-checked}
 
--- the answer of a refused key
-refused-as : (ks : List ℕ) (n : ℕ) → key-refusal ks ≡ n → (n ≡ 0 → ⊥) → checked-as (KeyCheck.Refused n) ≡ key-checked ks
-unfolding checked-as key-checked
-refused-as ks n e h = rw (e, ne-eqb n 0 h)
+module _ (ks : List ℕ) where
+  -- the header's own
+  pub refused-header : (n : ℕ) → KeyCheck.Refused n ≡ checked-by (head-refusal (head-in ks)) ks → KeyCheck.Refused n ≡ checked-by (key-refusal ks) ks
+  unfolding key-refusal
+  refused-header n e =
+      let says = refused-says ks n _ e in
+      refused-by ks n _ (sym (says .0) ∙ sym (first-fits _ _ (says .1))) (λ z. says .1 (says .0 ∙ z))
 
-pub refused-number : (ks : List ℕ) → Heading.Broken ≡ heading-in ks → checked-as (KeyCheck.Refused 10) ≡ key-checked ks
-unfolding key-refusal
-refused-number ks e = refused-as ks 10 (rw (heading-none ks e)) (λ q. omega arith)
+  module _ (h : Heading) (read : KeyCheck.Accepted h ≡ checked-by (head-refusal (head-in ks)) ks) where
+    says : Says (head-refusal (head-in ks)) ks h
+    says = accepted-says ks h _ read
 
--- the numbers behind 10, by their tests
-unfoldable behind : (board : ℕ) → (player long marks : Bool) → ℕ
-behind n p l m = cond (not (eqb n 0)) n (cond p 11 (cond (not l) 12 (cond m 0 13)))
+    -- the board that the length is asked for is accepted
+    pub header-board : board-refusal (board-of (h .header .board)) ≡ 0
+    header-board = rw (← (says .board-is)) (head-fine (head-in ks) (says .none) .1)
 
-module _ (ks : List ℕ) (h : Header) (next : Reader) (read : Heading.Whole h next ≡ heading-in ks) where
-  b : Board
-  b = board-of (h .board)
+    chain : key-refusal ks ≡ cond (not (eqb (length ks) (key-long (board-of (h .header .board))))) 12
+        (cond (marks-good (grid-rows (board-of (h .header .board))) (board-of (h .header .board)) (drop (h .end) ks)) 0 13)
+    unfolding key-refusal
+    chain =
+        let own = head-fine (head-in ks) (says .none) in
+        let few = board-in (head-in ks .board) (own .1) .players-most in
+        let small : head-in ks .player < 128 = omega (arith, own .2) in
+        next-fits (head-refusal (head-in ks)) _ (says .none) ∙ rw (long-is (head-in ks .board) (head-in ks .player) small, says .board-is, says .rest-is)
 
-  chain : key-refusal ks
-      ≡ behind (board-refusal b) (leb (b .p) (h .player))
-      (eqb (length ks) (length (header b (h .player)) + grid-rows b * stride b + columns b * row-long b)) (marks-good (grid-rows b) b (drop (next .at) ks))
-  unfolding key-refusal behind b
-  chain = rw (heading-says ks h next read)
+    module _ (long : ℕ) (k : long ≡ key-long (board-of (h .header .board))) where
+      pub refused-length : (length ks ≡ long → ⊥) → KeyCheck.Refused 12 ≡ checked-by (key-refusal ks) ks
+      refused-length z = refused-by ks 12 _ (sym (chain ∙ rw (← k, ne-eqb (length ks) long z))) (λ q. omega arith)
 
-  refused-board : (n : ℕ) → n ≡ board-refusal (board-of (h .board)) → (n ≡ 0 → ⊥) → checked-as (KeyCheck.Refused n) ≡ key-checked ks
-  unfolding behind b
-  refused-board n e z = refused-as ks n (chain ∙ rw (← e, ne-eqb n 0 z)) z
-
-  module _ (accepted : board-refusal (board-of (h .board)) ≡ 0) where
-    refused-player : h .board .players ≤ h .player → checked-as (KeyCheck.Refused 11) ≡ key-checked ks
-    unfolding behind b board
-    refused-player p = refused-as ks 11 (chain ∙ rw (accepted, le-leb (h .board .players) (h .player) p)) (λ q. omega arith)
-
-    module _ (own : h .player < h .board .players) where
-      -- 11 does not fit, and the length is K
-      chain-own : key-refusal ks ≡ behind 0 false (eqb (length ks) (key-long b)) (marks-good (grid-rows b) b (drop (next .at) ks))
-      unfolding behind b board
-      chain-own =
-          let few : h .board .players ≤ 6 = board-in (board-of (h .board)) accepted .players-most in
-          let small : h .player < 128 = omega arith in
-          chain ∙ rw (accepted, lt-leb (h .board .players) (h .player) own, long-is (board-of (h .board)) (h .player) small)
-
-      pub refused-length : (long : ℕ) → long ≡ key-long (board-of (h .board)) → (length ks ≡ long → ⊥) → checked-as (KeyCheck.Refused 12) ≡ key-checked ks
-      unfolding behind b
-      refused-length long e z = refused-as ks 12 (chain-own ∙ rw (← e, ne-eqb (length ks) long z)) (λ q. omega arith)
-
-      module _ (long : ℕ) (k : long ≡ key-long (board-of (h .board))) (same : length ks ≡ long) (part : List ℕ) (cut : part ≡ drop (next .at) ks)
-          (marks : Bool) (seen : marks ≡ marks-good (grid-rows (board-of (h .board))) (board-of (h .board)) part)
+      module _ (same : length ks ≡ long) (part : List ℕ) (cut : part ≡ drop (h .end) ks)
+          (marks : Bool) (seen : marks ≡ marks-good (grid-rows (board-of (h .header .board))) (board-of (h .header .board)) part)
         where
-          pub refused-marks : not marks ≡ true → checked-as (KeyCheck.Refused 13) ≡ key-checked ks
-          unfolding behind b
-          refused-marks z =
-              refused-as ks 13 (chain-own ∙ rw (← k, eq-eqb (length ks) long same, ← cut, ← seen, not-true marks z)) (λ q. omega arith)
+          chain-marks : key-refusal ks ≡ cond marks 0 13
+          chain-marks = chain ∙ rw (← k, eq-eqb (length ks) long same, ← cut, ← seen)
 
-          pub accepted-key : not marks ≡ false → checked-as (KeyCheck.Accepted h) ≡ key-checked ks
-          unfolding behind b checked-as key-checked head-numbers board
-          accepted-key z =
-              let none : key-refusal ks ≡ 0 = chain-own ∙ rw (← k, eq-eqb (length ks) long same, ← cut, ← seen, not-false marks z) in
-              rw (none, heading-says ks h next read)
+          pub refused-marks : not marks ≡ true → KeyCheck.Refused 13 ≡ checked-by (key-refusal ks) ks
+          refused-marks z = refused-by ks 13 _ (sym (chain-marks ∙ rw (not-true marks z))) (λ q. omega arith)
 
--- 1 to 5 or 11, the first that fits, as a sum by which `omega` weighs the number answered
-module _ (ks : List ℕ) (h : Header) (next : Reader) (read : Heading.Whole h next ≡ heading-in ks) where
-  abbrev early : (board : ℕ) → ℕ
-  early r = r + 11 * (min 1 (suc (h .player) - h .board .players) - min 1 r)
+          pub accepted-key : not marks ≡ false → KeyCheck.Accepted h ≡ checked-by (key-refusal ks) ks
+          accepted-key z = accepted-by ks h _ (chain-marks ∙ rw (not-false marks z)) (heading-same ks h _ read)
 
-  early-by : (n r : ℕ) → Dec (1 ≤ r) → r ≡ board-refusal (board-of (h .board)) → n ≡ early r → (n ≡ 0 → ⊥) → checked-as (KeyCheck.Refused n) ≡ key-checked ks
-  early-by n r (yes some) e due refused =
-      let same : n ≡ r = omega arith in
-      rw same (refused-board ks h next read r e (λ z. omega arith))
-  early-by n r (no none) e due refused =
-      let accepted : r ≡ 0 = omega arith in
-      let beyond : h .board .players ≤ h .player = omega arith in
-      let same : n ≡ 11 = omega arith in
-      rw same (refused-player ks h next read (sym e ∙ accepted) beyond)
+-- WHAT THE ANSWER TELLS: the number, and where it is 0 the header's numbers
+pub check-tells : (ks : List ℕ) (answer : KeyCheck) → answer ≡ checked-by (key-refusal ks) ks → checked-as answer ≡ key-checked ks
+unfolding checked-as key-checked head-numbers checked-by heading-in header-of header-numbers
+check-tells ks answer e = rw e (go (eqb (key-refusal ks) 0) refl)
+  where
+    go : (t : Bool) → eqb (key-refusal ks) 0 ≡ t →
+        checked-as (cond t (KeyCheck.Accepted (heading-in ks)) (KeyCheck.Refused (key-refusal ks))) ≡ record { refusal = key-refusal ks; numbers = cond t (head-numbers (head-in ks)) [] }
+    go true zero-is = let none : key-refusal ks ≡ 0 = eqb-true (key-refusal ks) 0 zero-is in rw none
+    go false some = refl
 
-  pub refused-early : (n r : ℕ) → r ≡ board-refusal (board-of (h .board)) → n ≡ early r → (n ≡ 0 → ⊥) → checked-as (KeyCheck.Refused n) ≡ key-checked ks
-  refused-early n r = early-by n r (decLe 1 r)
+pub board-fine : (ks : List ℕ) (h : Heading) → Says (key-refusal ks) ks h → board-refusal (board-of (h .header .board)) ≡ 0
+board-fine ks h a = rw (← (a .board-is)) (board-accepted (head-in ks .board) (key-in ks (a .none) .board))

@@ -1,11 +1,12 @@
--- The answers of the check of a key: what each case of the enum says, in document 03's words.
+-- What the check of a key tells: document 01's number and the header's numbers.
 -- Assumes nothing: these are definitions.
 use mathlib.Core.Bool.{cond}
 use mathlib.Core.List.{List, [], _∷_}
 use Prim.Native.Nat.{ℕ}
 use lib.Dec.{eqb}
 use Rattle.keys.specs.Keys.{Head, head-in, key-refusal}
-use Rattle.key_check.specs.declared.check.KeyCheck.{KeyCheck}
+use Rattle.key_header.specs.Answers.{header-numbers}
+use Rattle.key_header.specs.declared.KeyCheck.{KeyCheck}
 
 -- What the check of a key says: document 01's number (0: accepted), and the header's five numbers in their order, where it is accepted
 pub record Checked : Type 0 where
@@ -14,11 +15,7 @@ pub record Checked : Type 0 where
 
 -- each case of the answer
 unfoldable pub checked-as : KeyCheck → Checked
-checked-as (KeyCheck.Accepted h) =
-    record {
-      refusal = 0;
-      numbers = h .board .players ∷ h .player ∷ h .board .positions ∷ h .board .width ∷ h .board .«value_bytes» ∷ [];
-    }
+checked-as (KeyCheck.Accepted h) = record { refusal = 0; numbers = header-numbers (h .header) }
 checked-as (KeyCheck.Refused n) = record { refusal = n; numbers = [] }
 
 -- "An accepted key gives its header numbers"; a refused one none

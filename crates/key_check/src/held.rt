@@ -1,12 +1,12 @@
 // The seed of a grid row and column that a key holds: its place in the key, and the 32 bytes of the caller's key themselves, a part of
 // what was lent and never a copy.
-use crate::check::KeyCheck;
 use crate::check::check_key;
-use key_header::part_from;
-use key_lengths::SEED_BYTES;
-use key_lengths::grid_row_from;
+use grid::board::SEED_BYTES;
+use key_header::KeyCheck;
+use key_lengths::stride;
 use key_marks::mark;
 use key_marks::seed_from;
+use reader::part_from;
 ghost use mathlib.Core.Path.{_≡_};
 ghost use Rattle.keys.specs.Held.{held-seed-place, held-seed};
 
@@ -15,9 +15,10 @@ ghost use Rattle.keys.specs.Held.{held-seed-place, held-seed};
 pub fn held_seed_place(key: &[u8], grid_row: u32, column: u32) -> usize
     ensures { λ r. ⌜ r ≡ held-seed-place (now (key .entry)) «grid_row» column ⌝ }
 {
-    let KeyCheck::Accepted(header) = check_key(key) else {
+    let KeyCheck::Accepted(heading) = check_key(key) else {
         return 0;
     };
+    let header = heading.header;
     let board = header.board;
     let row = grid_row as usize;
     if board.grid_rows() <= row {
@@ -28,7 +29,7 @@ pub fn held_seed_place(key: &[u8], grid_row: u32, column: u32) -> usize
     if columns <= place {
         return 0;
     }
-    let from = grid_row_from(header, row);
+    let from = heading.end + row * stride(board);
     let part = part_from(key, from);
     let marked = mark(part, place);
     if !marked {

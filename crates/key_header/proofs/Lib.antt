@@ -1,2 +1,3 @@
--- The laws of reading a key. Assumes nothing.
+-- The laws of readers, headers and checks. Assumes nothing.
 pub mod Reading
+pub mod Lengths

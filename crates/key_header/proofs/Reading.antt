@@ -2,22 +2,26 @@
 -- Assumes nothing.
 use mathlib.Core.Path.{_≡_, refl, sym, ap, _∙_}
 use mathlib.Core.Bool.{Bool, true, false, _&&_, cond}
-use mathlib.Core.List.{List, [], _∷_}
-use Prim.Native.Nat.{ℕ, suc, _+_, _*_, _-_, _≤_, _<_}
+use mathlib.Core.List.{List, [], _∷_, _++_, append-assoc, append-nil}
+use Prim.Native.Nat.{ℕ, zero, suc, _+_, _*_, _-_, _≤_, _<_}
 use native.Mathlib.Nat.{sub-zero}
 use native.Mathlib.Omega.{arith}
-use borrow.Author.Tests.{lt-ltb, le-ltb, ltb-true, ltb-false}
-use lib.Dec.{ltb}
-use lib.ListN.{length, getD, drop, length-drop, drop-of-length-le, List·getD-eq-default}
-use lib.Seq.{drop-cons, drop-drop, drop-length, getD-drop}
-use Rattle.grid.specs.Grid.{Board, board}
+use borrow.Author.Tests.{lt-ltb, le-ltb, ltb-true, ltb-false, ne-eqb, eqb-true, eqb-false}
+use lib.Dec.{ltb, eqb}
+use lib.ListN.{length, getD, set, take, drop, replicate, length-set, length-drop, length-append, take-append-drop, drop-of-length-le, List·getD-eq-default}
+use lib.Seq.{drop-cons, drop-drop, drop-length, getD-drop, take-at, drop-at, take-all, length-take-le, set-split, append-snoc}
+use Rattle.xor.specs.Xor.{bytes-good}
+use Rattle.grid.specs.Grid.{board}
 use Rattle.grid.specs.Code.{board-of}
-use Rattle.keys.specs.Keys.{Got, got, none-got, number-in, Head, head-of, head-in}
-use Rattle.key_header.specs.Answers.{number-of, number-at, read-as, header-of, heading-in}
-use Rattle.key_header.specs.declared.Number.{Number}
-use Rattle.key_header.specs.declared.Reader.{Reader}
+use Rattle.keys.specs.Keys.{Got, got, none-got, number-in, Numbers, numbers-in, head-by-numbers, head-in, header, numbers-refusal, head-refusal}
+use Rattle.keys.proofs.Numbers.{head-is, header-again}
+use Rattle.key_header.specs.Answers.{number-of, number-at, read-as, five-at, header-of, heading-in, checked-by}
+use Rattle.key_header.specs.declared.numbers.Number.{Number}
+use Rattle.key_header.specs.declared.numbers.Reader.{Reader}
+use Rattle.key_header.specs.declared.numbers.Five.{Five}
 use Rattle.key_header.specs.declared.Header.{Header}
 use Rattle.key_header.specs.declared.Heading.{Heading}
+use Rattle.key_header.specs.declared.KeyCheck.{KeyCheck}
 
 -- a number by its first three bytes, where those past the end count as 0
 unfoldable grouped : (a b c : ℕ) → List ℕ → Got
@@ -199,108 +203,208 @@ number-read ks at = go (number-at ks at) refl
     go (Number.Whole v next) e = rw (← e) (sym (read-whole ks at v next e))
     go Number.Broken e = rw (← e) (none-there (drop at ks) (read-broken ks at e))
 
--- THE HEADER, number by number: each is read where the one before ended
-pub broken-first : (ks : List ℕ) → Number.Broken ≡ number-at ks 0 → head-in ks .good ≡ false
-unfolding head-in head-of
-broken-first ks e = rw (read-broken ks 0 e)
-
-module _ (ks : List ℕ) (p : ℕ) (after-p : Reader) where
-  module _ (one : Number.Whole p after-p ≡ number-at ks 0) where
-    pub broken-second : Number.Broken ≡ number-at ks (after-p .at) → head-in ks .good ≡ false
-    unfolding head-in head-of got
-    broken-second e = rw (read-whole ks 0 p after-p one, read-broken ks (after-p .at) e)
-
-    module _ (i : ℕ) (after-i : Reader) (two : Number.Whole i after-i ≡ number-at ks (after-p .at)) where
-      pub broken-third : Number.Broken ≡ number-at ks (after-i .at) → head-in ks .good ≡ false
-      unfolding head-in head-of got
-      broken-third e =
-          rw (read-whole ks 0 p after-p one, read-whole ks (after-p .at) i after-i two, read-broken ks (after-i .at) e)
-
-      module _ (n : ℕ) (after-n : Reader) (three : Number.Whole n after-n ≡ number-at ks (after-i .at)) where
-        pub broken-fourth : Number.Broken ≡ number-at ks (after-n .at) → head-in ks .good ≡ false
-        unfolding head-in head-of got
-        broken-fourth e =
-            rw (read-whole ks 0 p after-p one, read-whole ks (after-p .at) i after-i two, read-whole ks (after-i .at) n after-n three, read-broken ks (after-n .at) e)
-
-        module _ (m : ℕ) (after-m : Reader) (four : Number.Whole m after-m ≡ number-at ks (after-n .at)) where
-          pub broken-fifth : Number.Broken ≡ number-at ks (after-m .at) → head-in ks .good ≡ false
-          unfolding head-in head-of got
-          broken-fifth e =
-              rw (
-                read-whole ks 0 p after-p one,
-                read-whole ks (after-p .at) i after-i two,
-                read-whole ks (after-i .at) n after-n three,
-                read-whole ks (after-n .at) m after-m four,
-                read-broken ks (after-m .at) e,
-              )
-
-          pub whole-head : (w : ℕ) (after-w : Reader) → Number.Whole w after-w ≡ number-at ks (after-m .at)
-              → head-in ks ≡ record { good = true; board = board p n m w; player = i; rest = drop (after-w .at) ks }
-          unfolding head-in head-of got
-          whole-head w after-w five =
-              rw (
-                read-whole ks 0 p after-p one,
-                read-whole ks (after-p .at) i after-i two,
-                read-whole ks (after-i .at) n after-n three,
-                read-whole ks (after-n .at) m after-m four,
-                read-whole ks (after-m .at) w after-w five,
-              )
-
--- the answer for the whole header
-pub heading-broken : (ks : List ℕ) → head-in ks .good ≡ false → Heading.Broken ≡ heading-in ks
-unfolding heading-in
-heading-broken ks h = rw h
-
 -- a reader never stands past the end
-pub read-inside : (ks : List ℕ) (at v : ℕ) (next : Reader) → Number.Whole v next ≡ number-at ks at → next .at ≤ length ks
+read-inside : (ks : List ℕ) (at v : ℕ) (next : Reader) → Number.Whole v next ≡ number-at ks at → next .at ≤ length ks
 unfolding number-at
 read-inside ks at v next e = omega (arith, whole-good (length ks) v next (number-in (drop at ks)) e .2)
 
-pub heading-whole : (ks : List ℕ) (p i n m w : ℕ) (next : Reader) → next .at ≤ length ks
-    → head-in ks ≡ record { good = true; board = board p n m w; player = i; rest = drop (next .at) ks }
-    → Heading.Whole (record { board = record { players = p; positions = n; width = m; «value_bytes» = w }; player = i }) next
-    ≡ heading-in ks
-unfolding heading-in header-of board
-heading-whole ks p i n m w next inside e =
-    let at : length ks - length (drop (next .at) ks) ≡ next .at = omega (arith, length-drop (next .at) ks) in rw (e, at)
+-- SO MANY NUMBERS, each read where the one before ended
+
+-- numbers in front of others
+unfoldable pub behind : List ℕ → Numbers → Numbers
+behind vs m = record { good = m .good; values = vs ++ m .values; rest = m .rest }
+
+-- the numbers that begin with one
+abbrev from-one : (k : ℕ) → Got → Numbers
+from-one k g =
+    let more = numbers-in k (g .rest) in
+    record { good = g .good && more .good; values = g .value ∷ more .values; rest = more .rest }
+
+from-first : (k : ℕ) (xs : List ℕ) (g : Got) → number-in xs ≡ g → numbers-in (suc k) xs ≡ from-one k g
+unfolding numbers-in
+from-first k xs g e = ap (λ (x : Got). from-one k x) e
+
+numbers-whole : (k v : ℕ) (xs ys vs : List ℕ) → number-in xs ≡ got v ys → behind vs (numbers-in (suc k) xs) ≡ behind (vs ++ v ∷ []) (numbers-in k ys)
+unfolding behind got
+numbers-whole k v xs ys vs e =
+    ap (behind vs) (from-first k xs (got v ys) e) ∙ rw (append-assoc vs (v ∷ []) (numbers-in k ys .values))
+
+numbers-none : (k : ℕ) → (numbers-in k [] .values ≡ replicate k 0) × (numbers-in k [] .rest ≡ [])
+unfolding numbers-in number-in
+numbers-none zero = (refl, refl)
+numbers-none (suc k) = let more = numbers-none k in (ap (λ (vs : List ℕ). 0 ∷ vs) (more .0), more .1)
+
+numbers-broken : (k : ℕ) (xs : List ℕ) → none-got ≡ number-in xs → numbers-in (suc k) xs ≡ record { good = false; values = replicate (suc k) 0; rest = [] }
+numbers-broken k xs e =
+    let none = numbers-none k in
+    from-first k xs none-got (sym e) ∙ rw (none .0, none .1)
+
+-- of five numbers so many are read, and the others are 0
+pub record Read (ks values : List ℕ) (read at : ℕ) : Type 0 where
+  pub few : read ≤ 5
+  pub long : length values ≡ 5
+  pub inside : at ≤ length ks
+  pub clear : drop read values ≡ replicate (5 - read) 0
+  pub rest : numbers-in 5 ks ≡ behind (take read values) (numbers-in (5 - read) (drop at ks))
+
+pub none-read : (ks : List ℕ) → Read ks (replicate 5 0) 0 0
+unfolding behind
+none-read ks = record { few = omega arith; long = refl; inside = omega arith; clear = refl; rest = refl }
+
+-- one more value in its place
+set-front : (values : List ℕ) (read v : ℕ) → read < length values →
+    (take (read + 1) (set values read v) ≡ take read values ++ v ∷ []) × (drop (read + 1) (set values read v) ≡ drop (read + 1) values)
+set-front values read v within =
+    let front = take read values ++ v ∷ [] in
+    let one : read + 1 ≡ suc read = omega arith in
+    let whole : set values read v ≡ front ++ drop (suc read) values = set-split values read v within ∙ sym (append-snoc (take read values) v (drop (suc read) values)) in
+    let long : length front ≡ suc read = length-append (take read values) (v ∷ []) ∙ omega (arith, length-take-le read values (omega arith)) in
+    rw (one, whole) (take-at front (drop (suc read) values) (suc read) long, drop-at front (drop (suc read) values) (suc read) long)
+
+one-less : (k : ℕ) → drop 1 (replicate {A = ℕ} (suc k) 0) ≡ replicate k 0
+one-less k = refl
+
+pub one-read : (ks values : List ℕ) (read at v : ℕ) (next : Reader) → Read ks values read at → read < 5 → Number.Whole v next ≡ number-at ks at →
+    Read ks (set values read v) (read + 1) (next .at)
+one-read ks values read at v next before more e =
+    let front = set-front values read v (omega (arith, before .long)) in
+    let left : 5 - read ≡ suc (5 - (read + 1)) = omega arith in
+    let cleared : drop (read + 1) values ≡ replicate (5 - (read + 1)) 0 =
+    sym (drop-drop 1 read values) ∙ ap (λ (vs : List ℕ). drop 1 vs) (before .clear) ∙ rw left (one-less (5 - (read + 1))) in
+    record {
+      few = omega arith;
+      long = simp length-set (before .long);
+      inside = read-inside ks at v next e;
+      clear = front .1 ∙ cleared;
+      rest =
+          before .rest ∙ rw (left, front .0)
+          (numbers-whole (5 - (read + 1)) v (drop at ks) (drop (next .at) ks) (take read values) (read-whole ks at v next e));
+    }
+
+-- the answers: all five, or one that is none
+five-by : (ks values rest : List ℕ) (whole : Bool) (end : ℕ) → numbers-in 5 ks ≡ record { good = whole; values = values; rest = rest } → end ≡ length ks - length rest →
+    record { whole = whole; values = values; end = end } ≡ five-at ks
+unfolding five-at
+five-by ks values rest whole end is e = rw (is, e)
+
+no-more : (vs xs : List ℕ) → behind vs (numbers-in 0 xs) ≡ record { good = true; values = vs; rest = xs }
+unfolding behind numbers-in
+no-more vs xs = rw (append-nil vs)
+
+pub all-read : (ks values : List ℕ) (read at : ℕ) → Read ks values read at → 5 ≤ read → record { whole = true; values = values; end = at } ≡ five-at ks
+all-read ks values read at done all =
+    let whole : take read values ≡ values = take-all read values (omega (arith, done .long)) in
+    let none : 5 - read ≡ 0 = omega arith in
+    five-by ks values (drop at ks) true at (done .rest ∙ rw (none, whole) (no-more values (drop at ks))) (rw (length-drop at ks) (omega (arith, done .inside)))
+
+pub none-more : (ks values : List ℕ) (read at : ℕ) → Read ks values read at → read < 5 → Number.Broken ≡ number-at ks at →
+    record { whole = false; values = values; end = length ks } ≡ five-at ks
+unfolding behind
+none-more ks values read at done more e =
+    let left : 5 - read ≡ suc (5 - (read + 1)) = omega arith in
+    let none = numbers-broken (5 - (read + 1)) (drop at ks) (none-there (drop at ks) (read-broken ks at e)) in
+    let zeros : drop read values ≡ replicate (suc (5 - (read + 1))) 0 = done .clear ∙ ap (λ (k : ℕ). replicate k 0) left in
+    let whole : take read values ++ replicate (suc (5 - (read + 1))) 0 ≡ values = ap (λ (vs : List ℕ). take read values ++ vs) (sym zeros) ∙ take-append-drop read values in
+    let rest : numbers-in 5 ks ≡ behind (take read values) (numbers-in (suc (5 - (read + 1))) (drop at ks)) = done .rest ∙ ap (λ (k : ℕ). behind (take read values) (numbers-in k (drop at ks))) left in
+    five-by ks values [] false (length ks) (rest ∙ ap (behind (take read values)) none ∙ rw whole) (sym (sub-zero (length ks)))
+
+-- THE HEADER by its five numbers
 
 -- what is left behind a header is the end of the key
-ends-head : (ks : List ℕ) → Ends ks (head-in ks .rest)
-unfolding head-in head-of
-ends-head ks =
-    let p = number-in ks in
-    let i = number-in (p .rest) in
-    let n = number-in (i .rest) in
-    let m = number-in (n .rest) in
-    let w = number-in (m .rest) in
-    let two = ends-trans ks (p .rest) (i .rest) (ends-number ks) (ends-number (p .rest)) in
-    let three = ends-trans ks (i .rest) (n .rest) two (ends-number (i .rest)) in
-    let four = ends-trans ks (n .rest) (m .rest) three (ends-number (n .rest)) in
-    ends-trans ks (m .rest) (w .rest) four (ends-number (m .rest))
+ends-numbers : (k : ℕ) (bs : List ℕ) → Ends bs (numbers-in k bs .rest)
+unfolding numbers-in
+ends-numbers zero bs = ends-drop bs 0
+ends-numbers (suc k) bs = ends-trans bs (number-in bs .rest) (numbers-in k (number-in bs .rest) .rest) (ends-number bs) (ends-numbers k (number-in bs .rest))
 
-head-by : (t : Bool) (x b : Board) (y i : ℕ) (xs ys : List ℕ) → t ≡ true → x ≡ b → y ≡ i → xs ≡ ys
-    → _≡_ {A = Head} (record { good = t; board = x; player = y; rest = xs }) (record { good = true; board = b; player = i; rest = ys })
-head-by t x b y i xs ys d e f g = cc
+pub heading-rest : (ks : List ℕ) → drop (heading-in ks .end) ks ≡ head-in ks .rest
+unfolding heading-in head-by-numbers Ends
+heading-rest ks = rw (head-is ks) (ends-numbers 5 ks)
 
--- what the answer says of the header that stands there
-pub heading-says : (ks : List ℕ) (h : Header) (next : Reader) → Heading.Whole h next ≡ heading-in ks
-    → head-in ks ≡ record { good = true; board = board-of (h .board); player = h .player; rest = drop (next .at) ks }
-unfolding heading-in header-of board Ends
-heading-says ks h next e = go (head-in ks .good) refl
+-- by what the code read
+module _ (ks : List ℕ) (f : Five) (read : f ≡ five-at ks) where
+  -- the place behind them is inside, and what is left stands there
+  pub five-inside : f .end ≤ length ks
+  unfolding five-at
+  five-inside = rw read (omega arith)
+
+  pub five-rest : drop (f .end) ks ≡ numbers-in 5 ks .rest
+  unfolding five-at Ends
+  five-rest = rw read (ends-numbers 5 ks)
+
+  pub head-good : head-in ks .good ≡ f .whole
+  unfolding five-at head-by-numbers
+  head-good = rw (head-is ks, read)
+
+  abbrev pub header-read : Header
+  header-read =
+      record {
+        board = record { players = getD (f .values) 0 0; positions = getD (f .values) 2 0; width = getD (f .values) 3 0; «value_bytes» = getD (f .values) 4 0 };
+        player = getD (f .values) 1 0;
+      }
+
+  pub heading-read : record { header = header-read; end = f .end } ≡ heading-in ks
+  unfolding five-at head-by-numbers heading-in header-of board
+  heading-read = rw (head-is ks, read)
+
+  -- its numbers behind 10 are those of the header that was read
+  pub head-numbers : f .whole ≡ true → head-refusal (head-in ks) ≡ numbers-refusal (board-of (header-read .board)) (header-read .player)
+  unfolding head-refusal five-at head-by-numbers board
+  head-numbers whole =
+      let good : head-in ks .good ≡ true = head-good ∙ whole in
+      rw good (rw (head-is ks, read))
+
+  pub head-broken : f .whole ≡ false → head-refusal (head-in ks) ≡ 10
+  unfolding head-refusal
+  head-broken whole = let bad : head-in ks .good ≡ false = head-good ∙ whole in rw bad
+
+-- WHAT A CHECK ANSWERS
+
+pub refused-by : (ks : List ℕ) (n r : ℕ) → n ≡ r → (n ≡ 0 → ⊥) → KeyCheck.Refused n ≡ checked-by r ks
+unfolding checked-by
+refused-by ks n r e h = rw (← e, ne-eqb n 0 h)
+
+pub accepted-by : (ks : List ℕ) (h : Heading) (r : ℕ) → r ≡ 0 → h ≡ heading-in ks → KeyCheck.Accepted h ≡ checked-by r ks
+unfolding checked-by
+accepted-by ks h r e f = rw (e, f)
+
+-- of a refused one and of an accepted one
+pub refused-says : (ks : List ℕ) (n r : ℕ) → KeyCheck.Refused n ≡ checked-by r ks → (r ≡ n) × (r ≡ 0 → ⊥)
+unfolding checked-by
+refused-says ks n r e = go (eqb r 0) refl
   where
-    go : (t : Bool) → head-in ks .good ≡ t
-        → head-in ks ≡ record { good = true; board = board-of (h .board); player = h .player; rest = drop (next .at) ks }
-    go true good =
-        let same : h ≡ header-of (head-in ks) = cc in
-        let place : next .at ≡ length ks - length (head-in ks .rest) = cc in
-        head-by (head-in ks .good) (head-in ks .board) (board-of (h .board)) (head-in ks .player) (h .player) (head-in ks .rest)
-        (drop (next .at) ks) good (sym (ap (λ (x : Header). board-of (x .board)) same)) (sym (ap (λ (x : Header). x .player) same)) (rw place (sym (ends-head ks)))
-    go false good = let z : _≡_ {A = ℕ} 0 1 = cc in absurd (omega arith)
+    go : (t : Bool) → eqb r 0 ≡ t → (r ≡ n) × (r ≡ 0 → ⊥)
+    go true h = let z : _≡_ {A = ℕ} 0 1 = cc in absurd (omega arith)
+    go false h = (cc, eqb-false r 0 h)
 
-pub heading-none : (ks : List ℕ) → Heading.Broken ≡ heading-in ks → head-in ks .good ≡ false
-unfolding heading-in
-heading-none ks e = go (head-in ks .good) refl
+-- an accepted heading: nothing refused, and board, player and what stands behind are the header's
+pub record Says (refusal : ℕ) (ks : List ℕ) (h : Heading) : Type 0 where
+  pub none : refusal ≡ 0
+  pub board-is : head-in ks .board ≡ board-of (h .header .board)
+  pub player-is : head-in ks .player ≡ h .header .player
+  pub rest-is : head-in ks .rest ≡ drop (h .end) ks
+  pub end-is : h .end ≡ length ks - length (head-in ks .rest)
+
+pub heading-same : (ks : List ℕ) (h : Heading) (r : ℕ) → KeyCheck.Accepted h ≡ checked-by r ks → h ≡ heading-in ks
+unfolding checked-by
+heading-same ks h r e = go (eqb r 0) refl
   where
-    go : (t : Bool) → head-in ks .good ≡ t → head-in ks .good ≡ false
-    go true good = let z : _≡_ {A = ℕ} 0 1 = cc in absurd (omega arith)
-    go false good = good
+    go : (t : Bool) → eqb r 0 ≡ t → h ≡ heading-in ks
+    go true zero-is = cc
+    go false some = let z : _≡_ {A = ℕ} 0 1 = cc in absurd (omega arith)
+
+pub accepted-says : (ks : List ℕ) (h : Heading) (r : ℕ) → KeyCheck.Accepted h ≡ checked-by r ks → Says r ks h
+unfolding checked-by heading-in header-of board
+accepted-says ks h r e =
+    let same = heading-same ks h r e in
+    record { none = go (eqb r 0) refl; board-is = rw same; player-is = rw same; rest-is = rw same (sym (heading-rest ks)); end-is = rw same }
+  where
+    go : (t : Bool) → eqb r 0 ≡ t → r ≡ 0
+    go true zero-is = eqb-true r 0 zero-is
+    go false some = let z : _≡_ {A = ℕ} 0 1 = cc in absurd (omega arith)
+
+-- a header ends behind its bytes
+pub header-ends : (ks : List ℕ) (h : Heading) (r : ℕ) → Says r ks h → bytes-good ks ≡ true → head-in ks .good ≡ true → h .end ≡ length (header (head-in ks .board) (head-in ks .player))
+header-ends ks h r says good read =
+    let front = header (head-in ks .board) (head-in ks .player) in
+    let whole : length ks ≡ length front + length (head-in ks .rest) = ap length (header-again ks good read) ∙ length-append front (head-in ks .rest) in
+    says .end-is ∙ omega arith

@@ -1,21 +1,26 @@
-// Reading a key's bytes: a byte and a part of it, whatever its length, and its header. A reader goes by value: its method consumes it and
-// answers the number with the reader moved on, and the header's five numbers stand one after another. Assumes nothing.
+// The header of a key, p, player, N, μ, w: read, checked, measured and written here and nowhere else. Assumes nothing.
+use grid::board::ACCEPTED;
 use grid::board::Board;
 ghost use mathlib.Core.Path.{_≡_};
-ghost use lib.ListN.{getD, drop};
-ghost use Rattle.key_header.specs.Answers.{number-at, heading-in};
+ghost use Prim.Native.Nat.{_+_, _≤_, _<_};
+ghost use lib.ListN.{length};
+ghost use Rattle.grid.specs.Grid.{board-refusal};
+ghost use Rattle.grid.specs.Code.{board-of};
+ghost use Rattle.keys.specs.Keys.{head-in, numbers-refusal, head-refusal};
+ghost use Rattle.writer.specs.Written.{Wrote};
+ghost use Rattle.key_header.specs.Answers.{header-numbers, header-written, checked-by};
 
-// A place in a key.
-pub struct Reader {
-    pub at: usize,
-}
+pub mod numbers;
 
-// What stands at a reader's place: a number, and the reader behind it; or none, as the number is cut short, longer than three
-// groups or not in its shortest form.
-pub enum Number {
-    Whole(u32, Reader),
-    Broken,
-}
+use numbers::five_numbers;
+use numbers::number_length;
+use numbers::put_number;
+
+// A header number is cut short, longer than three groups, or not in its shortest form.
+pub const REFUSED_NUMBER: u32 = 10;
+
+// The player is none of the board's.
+pub const REFUSED_PLAYER: u32 = 11;
 
 // The five numbers of a header: those of the board, and the player.
 pub struct Header {
@@ -23,90 +28,105 @@ pub struct Header {
     pub player: u32,
 }
 
-// A header, and the reader behind it; or none, as one of its numbers is none.
-pub enum Heading {
-    Whole(Header, Reader),
-    Broken,
+// A header that was read, and the place where it ends.
+pub struct Heading {
+    pub header: Header,
+    pub end: usize,
 }
 
-// The byte at a place, and 0 past the end: a last group is never 0, so a number that is cut short reads as one that is not in its
-// shortest form.
-pub fn byte(key: &[u8], at: usize) -> u8
-    ensures { λ r. ⌜ r ≡ getD (now (key .entry)) at 0 ⌝ }
-{
-    if at < key.len() { key[at] } else { 0 }
+// What the check of a key, or of its header alone, answers: the header, or the number that refuses.
+pub enum KeyCheck {
+    Accepted(Heading),
+    Refused(u32),
 }
 
-// The part of a key that begins at a place, and an empty one past the end.
-pub fn part_from(key: &[u8], from: usize) -> &[u8]
-    ensures { λ r. ⌜ now r ≡ drop from (now (key .entry)) ⌝ }
-{
-    if from <= key.len() {
-        &key[from..]
-    } else {
-        &key[..0]
-    }
-}
-
-impl Reader {
-    pub fn number(self, key: &[u8]) -> Number
-        ensures { λ r. ⌜ r ≡ number-at (now (key .entry)) (self .at) ⌝ }
+impl Header {
+    // Its numbers in their order: p, player, N, μ, w.
+    pub fn numbers(self) -> [u32; 5]
+        ensures { λ r. ⌜ r ≡ header-numbers self ⌝ }
     {
-        let at = self.at;
-        if key.len() <= at {
-            return Number::Broken;
+        let board = self.board;
+        [
+            board.players,
+            self.player,
+            board.positions,
+            board.width,
+            board.value_bytes,
+        ]
+    }
+
+    // The numbers behind 10: 1 to 5, 11, the first that fits, or 0.
+    pub fn refusal(self) -> u32
+        ensures { λ r. ⌜ r ≡ numbers-refusal (board-of (self .board)) (self .player) ⌝ }
+    {
+        let board = self.board;
+        let players = board.players;
+        let player = self.player;
+        let refusal = board.refusal();
+        if refusal != ACCEPTED {
+            return refusal;
         }
-        let first = byte(key, at) as u32;
-        if first < 128 {
-            return Number::Whole(first, Reader { at: at + 1 });
+        if players <= player {
+            return REFUSED_PLAYER;
         }
-        let second = byte(key, at + 1) as u32;
-        if second == 0 {
-            return Number::Broken;
-        }
-        if second < 128 {
-            return Number::Whole(first - 128 + 128 * second, Reader { at: at + 2 });
-        }
-        let third = byte(key, at + 2) as u32;
-        if third == 0 {
-            return Number::Broken;
-        }
-        if third < 128 {
-            return Number::Whole(
-                first - 128 + 128 * (second - 128) + 16384 * third,
-                Reader { at: at + 3 },
-            );
-        }
-        Number::Broken
+        ACCEPTED
     }
 }
 
-// The header that a key begins with. All five numbers are read before anything is asked of them.
-pub fn header_in(key: &[u8]) -> Heading
-    ensures { λ r. ⌜ r ≡ heading-in (now (key .entry)) ⌝ }
+// 10, 1 to 5, 11: the first that fits, or the header. All five numbers are read before anything is asked of them.
+pub fn check_header(key: &[u8]) -> KeyCheck
+    ensures { λ r. ⌜ r ≡ checked-by (head-refusal (head-in (now (key .entry)))) (now (key .entry)) ⌝ }
 {
-    let start = Reader { at: 0 };
-    let Number::Whole(players, start) = start.number(key) else {
-        return Heading::Broken;
-    };
-    let Number::Whole(player, start) = start.number(key) else {
-        return Heading::Broken;
-    };
-    let Number::Whole(positions, start) = start.number(key) else {
-        return Heading::Broken;
-    };
-    let Number::Whole(width, start) = start.number(key) else {
-        return Heading::Broken;
-    };
-    let Number::Whole(value_bytes, start) = start.number(key) else {
-        return Heading::Broken;
-    };
+    let read = five_numbers(key);
+    if !read.whole {
+        return KeyCheck::Refused(REFUSED_NUMBER);
+    }
+    let values = read.values;
     let board = Board {
-        players,
-        positions,
-        width,
-        value_bytes,
+        players: values[0],
+        positions: values[2],
+        width: values[3],
+        value_bytes: values[4],
     };
-    let header = Header { board, player };
-    Heading::Whole(header, start)
+    let header = Header {
+        board,
+        player: values[1],
+    };
+    let refusal = header.refusal();
+    if refusal != ACCEPTED {
+        return KeyCheck::Refused(refusal);
+    }
+    KeyCheck::Accepted(Heading {
+        header,
+        end: read.end,
+    })
+}
+
+// Bytes of a header.
+pub fn header_length(header: Header) -> usize
+    ensures { λ r. ⌜ r ≡ length (header-written «header») ⌝ }
+{
+    let values = header.numbers();
+    let mut long: usize = 0;
+    let mut place: usize = 0;
+    while place < 5 {
+        long += number_length(values[place]);
+        place += 1;
+    }
+    long
+}
+
+// Writes a header.
+pub fn put_header(out: &mut [u8], at: usize, header: Header) -> usize
+    requires { ⌜ (board-refusal (board-of («header» .board)) ≡ 0) × («header» .player < 128) × (at + length (header-written «header») ≤ length (now out)) ⌝ }
+    ensures { λ r. ⌜ Wrote at (header-written «header») r (now (out .entry)) (now (out .exit)) ⌝ }
+{
+    let values = header.numbers();
+    let mut next = at;
+    let mut place: usize = 0;
+    while place < 5 {
+        next = put_number(out, next, values[place]);
+        place += 1;
+    }
+    next
 }

@@ -1,11 +1,11 @@
 // The marks of a grid row of a key, and where the seeds of its marked columns stand, in the part of the key that begins at it.
 // A mark that stands past the end of the part counts as zero, so that these functions ask nothing of the part's length. Assumes nothing.
 use grid::board::Board;
-use key_header::byte;
-use key_header::part_from;
-use key_lengths::SEED_BYTES;
+use grid::board::SEED_BYTES;
 use key_lengths::mark_bytes;
 use key_lengths::stride;
+use reader::byte;
+use reader::part_from;
 ghost use mathlib.Core.Path.{_≡_};
 ghost use Prim.Native.Nat.{_-_, _≤_};
 ghost use Rattle.grid.specs.Grid.{board-refusal, columns, grid-rows};

@@ -3,17 +3,18 @@
 use mathlib.Core.Path.{_≡_, refl, sym, ap, _∙_, subst}
 use mathlib.Core.Bool.{Bool, true, false, not, cond, false≢true}
 use mathlib.Core.List.{List, [], _++_, append-assoc, append-nil}
-use Prim.Native.Nat.{ℕ, _+_, _*_, _<_}
+use Prim.Native.Nat.{ℕ, suc, _+_, _*_, _-_, _≤_, _<_, min}
+use native.Mathlib.Decide.{decLe}
 use native.Mathlib.Omega.{arith}
 use lib.Dec.{leb, eqb}
 use lib.ListN.{length, drop, length-append, length-drop}
 use lib.Seq.{drop-at, take-add, take-all}
-use borrow.Author.Tests.{eqb-true, eqb-false, eq-eqb, leb-false, lt-leb, not-true, not-false}
+use borrow.Author.Tests.{eqb-true, eqb-false, eq-eqb, ne-eqb, le-leb, leb-false, lt-leb, not-true, not-false}
 use Rattle.xor.specs.Xor.{bytes-good}
 use Rattle.xor.proofs.Laws.{Word, word-append, good-right, good-drop}
 use Rattle.grid.specs.Grid.{Board, columns, grid-rows, row-long, board-refusal, each-long}
 use Rattle.grid.proofs.Facts.{Board-in, board-in, board-accepted}
-use Rattle.keys.specs.Keys.{header, head-in, stride, marks-good, key-refusal, key-long, glued, words-from, Parts, parts-of, parts-in, grid-rows-written, key-written}
+use Rattle.keys.specs.Keys.{header, Head, head-in, or-else, numbers-refusal, head-refusal, Accepted-body, stride, marks-good, key-refusal, key-long, glued, words-from, Parts, parts-of, parts-in, grid-rows-written, key-written}
 use Rattle.keys.proofs.Lists.{length-words, glue-words, each-words, length-glued, good-glued, words-glue}
 use Rattle.keys.proofs.Numbers.{header-again, header-read-back, header-good, header-long}
 use Rattle.keys.proofs.Parts.{Rows-good, marks-back, seeds-back, marks-good-back, rows-word, rows-read-good, rows-again}
@@ -38,6 +39,60 @@ last-passed false n pos h = let none : ⊥ = omega arith in absurd none
 pub refusing : (r : ℕ) → not (eqb r 0) ≡ true → r ≡ 0 → ⊥
 refusing r h e = eqb-false r 0 (not-true (eqb r 0) h) e
 
+-- "the first number that fits is given"
+pub first-fits : (a b : ℕ) → (a ≡ 0 → ⊥) → or-else a b ≡ a
+unfolding or-else
+first-fits a b h = rw (ne-eqb a 0 h)
+
+pub next-fits : (a b : ℕ) → a ≡ 0 → or-else a b ≡ b
+unfolding or-else
+next-fits a b h = rw (eq-eqb a 0 h)
+
+-- a number, or else the next: where neither fits
+pub neither : (a b : ℕ) → or-else a b ≡ 0 → (a ≡ 0) × (b ≡ 0)
+unfolding or-else
+neither a b h = go (eqb a 0) refl
+  where
+    go : (t : Bool) → eqb a 0 ≡ t → (a ≡ 0) × (b ≡ 0)
+    go true e = let none = eqb-true a 0 e in (none, sym (next-fits a b none) ∙ h)
+    go false e = let a-is : a ≡ 0 = sym (first-fits a b (eqb-false a 0 e)) ∙ h in absurd (eqb-false a 0 e a-is)
+
+-- A HEADER'S OWN NUMBERS
+
+module _ (b : Board) (i : ℕ) where
+  pub numbers-none : board-refusal b ≡ 0 → i < b .p → 0 ≡ numbers-refusal b i
+  unfolding numbers-refusal
+  numbers-none e h = rw (e, lt-leb (b .p) i h)
+
+  -- the first that fits, as a sum by which `omega` weighs the number answered
+  due : (r : ℕ) → r ≡ board-refusal b → Dec (1 ≤ r) → Dec (b .p ≤ i) → r + 11 * (min 1 (suc i - b .p) - min 1 r) ≡ numbers-refusal b i
+  unfolding numbers-refusal
+  due r e (yes some) d = let same : r + 11 * (min 1 (suc i - b .p) - min 1 r) ≡ r = omega arith in rw (same, ← e, ne-eqb r 0 (λ z. omega arith))
+  due r e (no none) (yes beyond) =
+      let zero-is : r ≡ 0 = omega arith in
+      let same : r + 11 * (min 1 (suc i - b .p) - min 1 r) ≡ 11 = omega arith in
+      rw (same, ← e, zero-is, le-leb (b .p) i beyond)
+  due r e (no none) (no own) =
+      let accepted : board-refusal b ≡ 0 = sym e ∙ omega arith in
+      let same : r + 11 * (min 1 (suc i - b .p) - min 1 r) ≡ 0 = omega arith in
+      same ∙ numbers-none accepted (omega arith)
+
+  pub numbers-due : (n r : ℕ) → r ≡ board-refusal b → n ≡ r + 11 * (min 1 (suc i - b .p) - min 1 r) → n ≡ numbers-refusal b i
+  numbers-due n r e is = is ∙ due r e (decLe 1 r) (decLe (b .p) i)
+
+  pub numbers-fine : numbers-refusal b i ≡ 0 → (board-refusal b ≡ 0) × (i < b .p)
+  unfolding numbers-refusal
+  numbers-fine h =
+      let first = passed (not (eqb (board-refusal b) 0)) (board-refusal b) _ (refusing (board-refusal b)) h in
+      let own = passed (leb (b .p) i) 11 0 (λ t n. omega arith) (first .1) in
+      (eqb-true (board-refusal b) 0 (not-false (eqb (board-refusal b) 0) (first .0)), leb-false (b .p) i (own .0))
+
+pub head-fine : (h : Head) → head-refusal h ≡ 0 → (h .good ≡ true) × (board-refusal (h .board) ≡ 0) × (h .player < h .board .p)
+unfolding head-refusal
+head-fine h e =
+    let read = passed (not (h .good)) 10 _ (λ t n. omega arith) e in
+    let own = numbers-fine (h .board) (h .player) (read .1) in (not-false (h .good) (read .0), own .0, own .1)
+
 -- WHAT CHECK KEY ACCEPTS
 
 pub record Key-in (ks : List ℕ) : Type 0 where
@@ -55,14 +110,13 @@ key-in ks r =
     let b = head-in ks .board in
     let i = head-in ks .player in
     let asked = length (header b i) + grid-rows b * stride b + columns b * row-long b in
-    let header-read = passed (not (head-in ks .good)) 10 _ (λ t n. omega arith) r in
-    let board-passed = passed (not (eqb (board-refusal b) 0)) (board-refusal b) _ (refusing (board-refusal b)) (header-read .1) in
-    let player-passed = passed (leb (b .p) i) 11 _ (λ t n. omega arith) (board-passed .1) in
-    let long-passed = passed (not (eqb (length ks) asked)) 12 _ (λ t n. omega arith) (player-passed .1) in
+    let both = neither (head-refusal (head-in ks)) _ r in
+    let head = head-fine (head-in ks) (both .0) in
+    let long-passed = passed (not (eqb (length ks) asked)) 12 _ (λ t n. omega arith) (both .1) in
     record {
-      header-good = not-false (head-in ks .good) (header-read .0);
-      board = board-in b (eqb-true (board-refusal b) 0 (not-false (eqb (board-refusal b) 0) (board-passed .0)));
-      player = leb-false (b .p) i (player-passed .0);
+      header-good = head .0;
+      board = board-in b (head .1);
+      player = head .2;
       long = eqb-true (length ks) asked (not-false (eqb (length ks) asked) (long-passed .0));
       marks = last-passed (marks-good (grid-rows b) b (head-in ks .rest)) 13 (omega arith) (long-passed .1);
     }
@@ -72,16 +126,14 @@ holds true e = refl
 holds false e = absurd (false≢true e)
 
 pub key-accepted : (ks : List ℕ) → Key-in ks → key-refusal ks ≡ 0
-unfolding key-refusal
+unfolding key-refusal head-refusal
 key-accepted ks k =
     let b = head-in ks .board in
     let i = head-in ks .player in
     let asked = length (header b i) + grid-rows b * stride b + columns b * row-long b in
-    pass (not (head-in ks .good)) 10 _ (holds (head-in ks .good) (k .header-good))
-    (pass (not (eqb (board-refusal b) 0)) (board-refusal b) _
-    (holds (eqb (board-refusal b) 0) (eq-eqb (board-refusal b) 0 (board-accepted b (k .board))))
-    (pass (leb (b .p) i) 11 _ (lt-leb (b .p) i (k .player))
-    (pass (not (eqb (length ks) asked)) 12 _ (holds (eqb (length ks) asked) (eq-eqb (length ks) asked (k .long))) (rw (k .marks)))))
+    let head : head-refusal (head-in ks) ≡ 0 = rw (k .header-good) (sym (numbers-none b i (board-accepted b (k .board)) (k .player))) in
+    next-fits (head-refusal (head-in ks)) _ head
+    ∙ pass (not (eqb (length ks) asked)) 12 _ (holds (eqb (length ks) asked) (eq-eqb (length ks) asked (k .long))) (rw (k .marks))
 
 -- AN ACCEPTED KEY
 
@@ -109,6 +161,16 @@ body-in ks g k =
       good = good-right (header b i) rest (subst (λ (l : List ℕ). bytes-good l ≡ true) whole g);
       marks = k .marks;
     }
+
+-- the same by what the code keeps to
+pub accepted-body : (ks : List ℕ) → bytes-good ks ≡ true → (b : Board) → key-refusal ks ≡ 0 → head-in ks .board ≡ b → Accepted-body b (head-in ks .rest)
+accepted-body ks g b r e =
+    let k = key-in ks r in
+    let body = body-in ks g k in
+    rw (← e) (record { board = board-accepted (head-in ks .board) (k .board); long = body .long; marks = body .marks })
+
+pub body-good : (b : Board) (bs : List ℕ) → Accepted-body b bs → bytes-good bs ≡ true → Body-in b bs
+body-good b bs a g = record { long = a .long; good = g; marks = a .marks }
 
 -- its parts are good
 pub body-parts : (b : Board) (bs : List ℕ) → Board-in b → Body-in b bs → Parts-good b (parts-of b bs)

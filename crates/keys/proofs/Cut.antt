@@ -1,14 +1,14 @@
--- A list that is cut: a header stands in its first fifteen bytes, so that a cut behind those changes none of its numbers. Assumes nothing.
+-- A list that is cut: a number stands in three bytes and a header in fifteen, so that a cut behind those changes none of them. Assumes nothing.
 use mathlib.Core.Path.{_≡_, refl, sym, ap, _∙_, subst}
 use mathlib.Core.Bool.{Bool, true, false, _&&_, cond}
 use mathlib.Core.List.{List, [], _∷_}
-use Prim.Native.Nat.{ℕ, suc, _+_, _*_, _-_, _≤_}
+use Prim.Native.Nat.{ℕ, zero, suc, _+_, _*_, _-_, _≤_}
 use native.Mathlib.Omega.{arith}
 use lib.Dec.{ltb}
 use lib.ListN.{take}
 use lib.Seq.{take-nil}
-use Rattle.grid.specs.Grid.{board}
-use Rattle.keys.specs.Keys.{Got, got, none-got, number-in, Head, head-of, head-in}
+use Rattle.keys.specs.Keys.{Got, got, none-got, number-in, Numbers, numbers-in, Head, head-by-numbers, head-in}
+use Rattle.keys.proofs.Numbers.{head-is}
 
 -- the first list is the second, cut behind so many bytes or later
 record Cut-at (least : ℕ) (xs ys : List ℕ) : Type 0 where
@@ -58,6 +58,22 @@ number-alike k xs ys c =
     subst (λ (l : List ℕ). Alike k (number-in l) (number-in ys)) (ap (λ (n : ℕ). take n ys) front ∙ sym (c .is))
     (front-alike k (c .at - 3) ys (omega arith))
 
+-- so many numbers are the same, where they stand before the cut
+pub record Same-numbers (g h : Numbers) : Type 0 where
+  pub good : g .good ≡ h .good
+  pub values : g .values ≡ h .values
+
+numbers-alike : (k : ℕ) (xs ys : List ℕ) → Cut-at (3 * k) xs ys → Same-numbers (numbers-in k xs) (numbers-in k ys)
+unfolding numbers-in
+numbers-alike zero xs ys c = record { good = refl; values = refl }
+numbers-alike (suc k) xs ys c =
+    let first = number-alike (3 * k) xs ys (record { at = c .at; behind = omega (arith, c .behind); is = c .is }) in
+    let more = numbers-alike k _ _ (first .rest) in
+    record { good = rw (first .good, more .good); values = rw (first .value, more .values) }
+
+pub numbers-cut : (k n : ℕ) (bs : List ℕ) → 3 * k ≤ n → Same-numbers (numbers-in k (take n bs)) (numbers-in k bs)
+numbers-cut k n bs h = numbers-alike k (take n bs) bs (cut-same (3 * k) n bs h)
+
 -- the header's numbers are the same
 pub record Same-head (g h : Head) : Type 0 where
   pub good : g .good ≡ h .good
@@ -65,15 +81,7 @@ pub record Same-head (g h : Head) : Type 0 where
   pub player : g .player ≡ h .player
 
 pub head-cut : (n : ℕ) (bs : List ℕ) → 15 ≤ n → Same-head (head-in (take n bs)) (head-in bs)
-unfolding head-in head-of board
+unfolding head-by-numbers
 head-cut n bs h =
-    let p = number-alike 12 (take n bs) bs (cut-same 15 n bs h) in
-    let i = number-alike 9 _ _ (p .rest) in
-    let m = number-alike 6 _ _ (i .rest) in
-    let wide = number-alike 3 _ _ (m .rest) in
-    let w = number-alike 0 _ _ (wide .rest) in
-    record {
-      good = rw (p .good, i .good, m .good, wide .good, w .good);
-      board = rw (p .value, m .value, wide .value, w .value);
-      player = i .value;
-    }
+    let same = numbers-cut 5 n bs h in
+    rw (head-is (take n bs), head-is bs) (record { good = same .good; board = rw (same .values); player = rw (same .values) })

@@ -14,10 +14,10 @@ use Rattle.keys.specs.Keys.{Lent, key, mark-bytes, count-marks, stride, 
 use Rattle.keys.specs.Promise.{Rule-good, lent-good, dealt-parts, Reads-parts, Dealt-accepted}
 use Rattle.keys.specs.Held.{marked, seed-from, holds, held-seed, Held-as-dealt}
 use Rattle.keys.proofs.Lists.{length-words, words-at}
-use Rattle.keys.proofs.Marks.{marks-set, count-marks-is, getD-marks, length-marks, length-marks-of}
+use Rattle.keys.proofs.Marks.{marks-set, count-marks-is, getD-marks, length-marks}
 use Rattle.keys.proofs.Opening.{marks-from-row, seeds-from-row, tests-at}
-use Rattle.keys.proofs.Dealing.{Lent-in, lent-in, half-marked, marks-append, marks-total, held-drop}
-use Rattle.keys.proofs.Accepted.{Key-in, key-in}
+use Rattle.keys.proofs.Dealing.{lent-in, half-marked, marks-append, marks-total, held-drop}
+use Rattle.keys.proofs.Accepted.{key-in}
 use Rattle.keys.proofs.Holding.{count-before}
 use Rattle.keys.proofs.Promise.{reads-parts, dealt-accepted}
 

@@ -1,15 +1,16 @@
 -- Document 03's own statements, each under its statement's name in small letters: its opening, which reads the words from the whole body, is
 -- the opening from the header and the part alone, at every square; and a rule that is good on every list is good on seeds. Assumes nothing.
 use mathlib.Core.Path.{_≡_, refl, sym, ap₂, _∙_}
-use mathlib.Core.Bool.{cond}
+use mathlib.Core.Bool.{Bool, true, false, not, cond}
 use mathlib.Core.List.{List}
 use Prim.Native.Nat.{ℕ, zero, suc, _+_, _*_, _-_, _/_, _%_, _≤_, _<_}
 use native.Mathlib.Nat.{div-zero, div-mul-le-self, le-div-iff-mul-le, zero-lt-suc}
 use native.Mathlib.Omega.{arith}
+use lib.Dec.{leb, eqb}
 use lib.ListN.{getD, take, drop}
 use Rattle.xor.specs.Xor.{xors, zeros}
-use Rattle.grid.specs.Grid.{Board, columns, grid-rows, bit, cell}
-use Rattle.keys.specs.Keys.{mark-bytes, grid-row-part, opened-from, opened-part, opened, head-in, key}
+use Rattle.grid.specs.Grid.{Board, columns, grid-rows, board-refusal, bit, cell}
+use Rattle.keys.specs.Keys.{mark-bytes, grid-row-part, opened-from, opened-part, opened, head-in, key, or-else, numbers-refusal, head-refusal, deal-refusal, key-refusal}
 use Rattle.keys.specs.Promise as Promise
 use Rattle.keys.specs.Document03 as Document03
 use Rattle.keys.proofs.Opening.{word-behind-is}
@@ -44,6 +45,24 @@ same-opening f ks a h =
     let b = head-in ks .board in
     same-from (columns b) 0 0 b f (head-in ks .rest) (a / b .wide) (a % b .wide) (zeros (b .w)) (square-row b a h)
 
+-- THE REFUSALS: those of a board and of a dealing are the same text, those of a key the same chain, cut behind the header's own
+chain : (good board player : Bool) (n r : ℕ) → board ≡ eqb n 0 →
+    cond (not good) 10 (cond (not board) n (cond player 11 r)) ≡ or-else (cond (not good) 10 (cond (not board) n (cond player 11 0))) r
+unfolding or-else
+chain false board player n r e = refl
+chain true true true n r e = refl
+chain true true false n r e = refl
+chain true false player n r e = rw (← e)
+
+pub same-refusals : Document03.Same-refusals
+unfolding Document03.board-refusal Document03.deal-refusal Document03.key-refusal board-refusal deal-refusal key-refusal head-refusal numbers-refusal
+same-refusals =
+    record {
+      board = λ b. refl;
+      deal = λ b l. refl;
+      key = λ bs. let h = head-in bs in chain (h .good) (eqb (board-refusal (h .board)) 0) (leb (h .board .p) (h .player)) (board-refusal (h .board)) _ refl;
+    }
+
 -- RULES
 
 -- a rule that is good on every list is good on seeds
@@ -63,12 +82,12 @@ keys-open b f l i a lent rule h p =
     let good = rule-good b f rule in
     let opens = Proved.keys-open b f l i a lent good h p in
     let board = Proved.reads-parts b f l i lent good h .1 in
-    (opens .0, opens .1, same-opening f (key b f l i) a (rw board p) ∙ opens .2)
+    (same-refusals .key (key b f l i) ∙ opens .0, opens .1, same-opening f (key b f l i) a (rw board p) ∙ opens .2)
 
 pub opens-alone : Document03.Opens-alone
 unfolding Document03.Opens-alone Document03.Same-opening Promise.Opens-alone
 opens-alone f ks a r g rule h =
-    Proved.opens-alone f ks a r g (rule-good (head-in ks .board) f rule) h ∙ sym (same-opening f ks a h)
+    Proved.opens-alone f ks a (sym (same-refusals .key ks) ∙ r) g (rule-good (head-in ks .board) f rule) h ∙ sym (same-opening f ks a h)
 
 pub reads-parts : Document03.Reads-parts
 unfolding Document03.Reads-parts Promise.Reads-parts

@@ -1,17 +1,18 @@
 -- Numbers in groups of seven bits, and headers: what is written is read back, and what is read is the only writing of its numbers.
 -- Assumes nothing.
-use mathlib.Core.Path.{_≡_, refl, _∙_, subst}
+use mathlib.Core.Path.{_≡_, refl, sym, ap, _∙_, subst}
 use mathlib.Core.Bool.{Bool, true, false, _&&_, cond, false≢true}
-use mathlib.Core.List.{List, [], _∷_, _++_, append-assoc}
+use mathlib.Core.List.{List, [], _∷_, _++_, append-assoc, append-nil}
 use Prim.Native.Nat.{ℕ, zero, suc, _+_, _*_, _-_, _/_, _%_, _≤_, _<_}
 use native.Mathlib.Omega.{arith}
 use lib.Dec.{ltb}
-use lib.ListN.{length, length-append}
+use lib.ListN.{length, getD, take, drop, length-append, take-append-drop}
+use lib.Seq.{take-suc}
 use borrow.Author.Tests.{ltb-true, ltb-false, lt-ltb, le-ltb}
 use Rattle.xor.specs.Xor.{bytes-good}
 use Rattle.xor.proofs.Laws.{and-left, and-right, good-head, good-tail, good-cons, good-append, good-right}
 use Rattle.grid.specs.Grid.{Board, board}
-use Rattle.keys.specs.Keys.{groups, number-bytes, header, Got, got, none-got, number-in, head-of, head-in}
+use Rattle.keys.specs.Keys.{groups, number-bytes, numbers-written, header, Got, got, none-got, number-in, numbers-in, head-by-numbers, head-of, head-in}
 
 -- the numbers that have at most three groups are those below this
 abbrev pub number-bound : ℕ
@@ -233,3 +234,47 @@ header-good b i = search (good-append, groups-good) depth 10
 pub header-long : (b : Board) (i : ℕ) → i < 128 → length (header b i) ≡ length (header b 0)
 unfolding header
 header-long b i h = rw (one-group i h, one-group 0 (omega arith)) (simp length-append)
+
+-- NUMBERS ONE BEHIND ANOTHER
+
+pub written-append : (vs ws : List ℕ) → numbers-written (vs ++ ws) ≡ numbers-written vs ++ numbers-written ws
+unfolding numbers-written
+written-append [] ws = refl
+written-append (v ∷ vs) ws =
+    ap (λ (bs : List ℕ). number-bytes v ++ bs) (written-append vs ws) ∙ sym (append-assoc (number-bytes v) (numbers-written vs) (numbers-written ws))
+
+-- the numbers before a place and the one that stands there
+pub written-next : (vs : List ℕ) (i : ℕ) → i < length vs → numbers-written (take (i + 1) vs) ≡ numbers-written (take i vs) ++ number-bytes (getD vs i 0)
+unfolding numbers-written
+written-next vs i h =
+    let one : i + 1 ≡ suc i = omega arith in
+    rw (one, take-suc vs i 0 h, written-append (take i vs) (getD vs i 0 ∷ []), append-nil)
+
+-- no more than all
+pub written-most : (vs : List ℕ) (i : ℕ) → length (numbers-written (take i vs)) ≤ length (numbers-written vs)
+written-most vs i =
+    let whole : numbers-written vs ≡ numbers-written (take i vs) ++ numbers-written (drop i vs) = ap numbers-written (sym (take-append-drop i vs)) ∙ written-append (take i vs) (drop i vs) in
+    omega (arith, ap length whole, length-append (numbers-written (take i vs)) (numbers-written (drop i vs)))
+
+-- THE HEADER BY ITS NUMBERS: five read one behind another, p, player, N, μ, w
+five-good : (p i n m w : Bool) → ((p && i) && (n && (m && w))) ≡ (p && (i && (n && (m && (w && true)))))
+five-good true true true true true = refl
+five-good true true true true false = refl
+five-good true true true false w = refl
+five-good true true false m w = refl
+five-good true false n m w = refl
+five-good false i n m w = refl
+
+pub head-is : (bs : List ℕ) → head-in bs ≡ head-by-numbers (numbers-in 5 bs)
+unfolding head-in head-of numbers-in head-by-numbers
+head-is bs =
+    let p = number-in bs in
+    let i = number-in (p .rest) in
+    let n = number-in (i .rest) in
+    let m = number-in (n .rest) in
+    let w = number-in (m .rest) in
+    rw (five-good (p .good) (i .good) (n .good) (m .good) (w .good))
+
+pub header-is : (b : Board) (i : ℕ) → numbers-written (b .p ∷ i ∷ b .n ∷ b .wide ∷ b .w ∷ []) ≡ header b i
+unfolding header numbers-written
+header-is b i = simp (append-nil, append-assoc)

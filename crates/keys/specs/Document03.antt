@@ -1,16 +1,17 @@
 -- Document 03's own text, word for word, of what Keys.antt and Promise.antt say otherwise: opening, which read the words from the whole
--- body, and `Rule-good`, which asked good rows of every list. `Same-opening` says that this opening is `opened` of Keys.antt at every square;
+-- body, the refusals, which did not share their parts, and `Rule-good`, which asked good rows of every list. `Same-opening` says that this opening is `opened` of Keys.antt at every square;
 -- then come document 03's statements under its own names. Assumes nothing: these are definitions and statements.
 use mathlib.Core.Path.{_≡_}
-use mathlib.Core.Bool.{true, cond}
+use mathlib.Core.Bool.{true, _&&_, not, cond}
 use mathlib.Core.List.{List}
-use Prim.Native.Nat.{ℕ, zero, suc, _+_, _*_, _/_, _%_, _<_}
-use lib.Dec.{eqb}
+use Prim.Native.Nat.{ℕ, zero, suc, _+_, _*_, _-_, _/_, _%_, _<_}
+use lib.Dec.{ltb, leb, eqb}
 use lib.ListN.{length, getD, take, drop}
 use Rattle.xor.specs.Xor.{xors, zeros, bytes-good}
-use Rattle.grid.specs.Grid.{Board, columns, grid-rows, row-long, bit, cell, share, joined-from}
+use Rattle.grid.specs.Grid
+use Rattle.grid.specs.Grid.{Board, columns, grid-rows, row-long, arrays-good, bit, cell, share, joined-from}
 use Rattle.keys.specs.Keys
-use Rattle.keys.specs.Keys.{mark-bytes, stride, grid-row-part, head-in, Lent, dealing, key, key-long, key-refusal, table, parts-in}
+use Rattle.keys.specs.Keys.{header, mark-bytes, marks-good, stride, grid-row-part, head-in, Lent, dealing, key, key-long, table, parts-in}
 use Rattle.keys.specs.Promise.{lent-good, entry, dealt-parts}
 
 -- OPENING from a key's bytes: the part that begins at a grid row, and the words behind all of them
@@ -33,6 +34,39 @@ opened f ks a =
 -- THE OPENING OF KEYS.ANTT IS THIS ONE, for every list of numbers and every rule, at every square
 unfoldable pub Same-opening : Type 0
 Same-opening = (f : List ℕ → List ℕ) (ks : List ℕ) (a : ℕ) → a < head-in ks .board .n → opened f ks a ≡ Keys.opened f ks a
+
+-- THE REFUSALS of a board, a dealing and a key
+unfoldable pub board-refusal : Board → ℕ
+board-refusal b =
+    cond (not (leb 2 (b .p) && leb (b .p) 6)) 1
+    (cond (not (leb 1 (b .n) && leb (b .n) 65536)) 2
+    (cond (not (leb 1 (b .wide) && leb (b .wide) 256)) 3
+    (cond (not (leb 1 (b .w) && leb (b .w) 16)) 4 (cond (ltb 256 (grid-rows b)) 5 0))))
+
+unfoldable pub deal-refusal : Board → Lent → ℕ
+deal-refusal b l =
+    let cells = grid-rows b * columns b in
+    cond (not (eqb (board-refusal b) 0)) (board-refusal b)
+    (cond (leb (b .n) (l .point)) 6
+    (cond (not ((eqb (length (l .value)) (b .w) && eqb (length (l .arrays)) cells)
+    && (eqb (length (l .seeds)) (32 * cells) && eqb (length (l .words)) ((columns b - 1) * row-long b)))) 7
+    (cond (arrays-good (grid-rows b) 0 b (l .point) (l .arrays)) 0 8)))
+
+unfoldable pub key-refusal : (key : List ℕ) → ℕ
+key-refusal bs =
+    let h = head-in bs in
+    let b = h .board in
+    cond (not (h .good)) 10
+    (cond (not (eqb (board-refusal b) 0)) (board-refusal b)
+    (cond (leb (b .p) (h .player)) 11
+    (cond (not (eqb (length bs) (length (header b (h .player)) + grid-rows b * stride b + columns b * row-long b))) 12
+    (cond (marks-good (grid-rows b) b (h .rest)) 0 13))))
+
+-- THE REFUSALS ARE THESE, of every board, every dealing and every list of numbers
+pub record Same-refusals : Type 0 where
+  pub board : (b : Board) → board-refusal b ≡ Grid.board-refusal b
+  pub deal : (b : Board) (l : Lent) → deal-refusal b l ≡ Keys.deal-refusal b l
+  pub key : (bs : List ℕ) → key-refusal bs ≡ Keys.key-refusal bs
 
 -- rules that give each seed a row's bytes
 unfoldable pub Rule-good : Board → (List ℕ → List ℕ) → Type 0

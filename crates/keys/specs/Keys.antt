@@ -3,13 +3,14 @@
 -- document 01 opens from the header and the part that begins at the square's grid row, so `opened` here reads nothing else. Document 03's
 -- own text of it stands in Document03.antt, whose `Same-opening` says that the two are equal. Quotations are document 01's.
 -- Assumes nothing: these are definitions.
+use mathlib.Core.Path.{_≡_}
 use mathlib.Core.Bool.{Bool, true, false, _&&_, not, cond}
 use mathlib.Core.List.{List, [], _∷_, _++_}
 use Prim.Native.Nat.{ℕ, zero, suc, _+_, _*_, _-_, _/_, _%_, _^_}
 use lib.Dec.{ltb, leb, eqb}
 use lib.ListN.{length, getD, take, drop}
 use Rattle.xor.specs.Xor.{xors, zeros}
-use Rattle.grid.specs.Grid.{Board, board, columns, grid-rows, row-long, board-refusal, Dealing, arrays-good, all-words, bit, cell}
+use Rattle.grid.specs.Grid.{Board, board, columns, grid-rows, row-long, board-refusal, arrays-long, seeds-long, words-long, Dealing, arrays-good, all-words, bit, cell}
 
 -- NUMBERS AND HEADERS
 
@@ -21,6 +22,11 @@ groups (suc k) v = cond (ltb v 128) (v ∷ []) ((v % 128 + 128) ∷ groups k (v 
 -- "shortest form only, at most three groups"
 unfoldable pub number-bytes : ℕ → List ℕ
 number-bytes v = groups 3 v
+
+-- numbers one behind another
+unfoldable pub numbers-written : List ℕ → List ℕ
+numbers-written [] = []
+numbers-written (v ∷ vs) = number-bytes v ++ numbers-written vs
 
 -- "the header is p, player, N, μ, w"
 unfoldable pub header : Board → (player : ℕ) → List ℕ
@@ -51,6 +57,19 @@ number-in (a ∷ b ∷ c ∷ bs) =
     (cond (ltb b 128) (cond (ltb 0 b) (got (a - 128 + 128 * b) (c ∷ bs)) none-got)
     (cond (ltb c 128 && ltb 0 c) (got (a - 128 + 128 * (b - 128) + 16384 * c) bs) none-got))
 
+-- so many numbers, each read behind the one before: whether all are there, and the bytes behind them
+pub record Numbers : Type 0 where
+  pub good : Bool
+  pub values : List ℕ
+  pub rest : List ℕ
+
+unfoldable pub numbers-in : (left : ℕ) → List ℕ → Numbers
+numbers-in zero bs = record { good = true; values = []; rest = bs }
+numbers-in (suc k) bs =
+    let first = number-in bs in
+    let more = numbers-in k (first .rest) in
+    record { good = first .good && more .good; values = first .value ∷ more .values; rest = more .rest }
+
 -- "all header numbers are read": the five, and the bytes behind them
 pub record Head : Type 0 where
   pub good : Bool
@@ -76,6 +95,30 @@ head-in bs =
     let n = number-in (i .rest) in
     let m = number-in (n .rest) in
     let w = number-in (m .rest) in head-of p i n m w
+
+-- the same header by five numbers read one behind another
+unfoldable pub head-by-numbers : Numbers → Head
+head-by-numbers m =
+    record {
+      good = m .good;
+      board = board (getD (m .values) 0 0) (getD (m .values) 2 0) (getD (m .values) 3 0) (getD (m .values) 4 0);
+      player = getD (m .values) 1 0;
+      rest = m .rest;
+    }
+
+-- WHAT A HEADER IS REFUSED FOR
+
+-- "the first number that fits is given": a number, or else the next
+unfoldable pub or-else : (a b : ℕ) → ℕ
+or-else a b = cond (eqb a 0) b a
+
+-- a header's numbers behind 10: "1 to 5, 11"
+unfoldable pub numbers-refusal : Board → (player : ℕ) → ℕ
+numbers-refusal b i = cond (not (eqb (board-refusal b) 0)) (board-refusal b) (cond (leb (b .p) i) 11 0)
+
+-- a header's own numbers: "10; 1 to 5; 11 player ≥ p"
+unfoldable pub head-refusal : Head → ℕ
+head-refusal h = cond (not (h .good)) 10 (numbers-refusal (h .board) (h .player))
 
 -- WHAT DEAL WRITES
 
@@ -134,6 +177,10 @@ pub record Lent : Type 0 where
   pub seeds : List ℕ
   pub words : List ℕ
 
+-- what Deal is lent
+abbrev pub lent : (point : ℕ) → (value arrays seeds words : List ℕ) → Lent
+lent a v cs ss ws = record { point = a; value = v; arrays = cs; seeds = ss; words = ws }
+
 -- "under a rule, a dealing's last word and all shares take their rows from it"
 unfoldable pub dealing : Board → (rule : List ℕ → List ℕ) → Lent → Dealing
 dealing b f l =
@@ -154,14 +201,17 @@ unfoldable pub keys-from : (left i : ℕ) → Board → (rule : List ℕ → Lis
 keys-from zero i b f l = []
 keys-from (suc k) i b f l = key b f l i ++ keys-from k (suc i) b f l
 
+-- whether value, arrays, seeds and words have the lengths that the board asks
+abbrev pub lent-fits : Board → (value arrays seeds words : ℕ) → Bool
+lent-fits b v cs ss ws =
+    (eqb v (b .w) && eqb cs (arrays-long b)) && (eqb ss (seeds-long b) && eqb ws (words-long b))
+
 -- "1 to 5; 6 point ≥ N; 7 a lent input of another length; 8 an array" that is neither even nor odd as it should be
 unfoldable pub deal-refusal : Board → Lent → ℕ
 deal-refusal b l =
-    let cells = grid-rows b * columns b in
     cond (not (eqb (board-refusal b) 0)) (board-refusal b)
     (cond (leb (b .n) (l .point)) 6
-    (cond (not ((eqb (length (l .value)) (b .w) && eqb (length (l .arrays)) cells)
-    && (eqb (length (l .seeds)) (32 * cells) && eqb (length (l .words)) ((columns b - 1) * row-long b)))) 7
+    (cond (not (lent-fits b (length (l .value)) (length (l .arrays)) (length (l .seeds)) (length (l .words)))) 7
     (cond (arrays-good (grid-rows b) 0 b (l .point) (l .arrays)) 0 8)))
 
 -- WHAT CHECK KEY REFUSES
@@ -192,11 +242,25 @@ unfoldable pub key-refusal : (key : List ℕ) → ℕ
 key-refusal bs =
     let h = head-in bs in
     let b = h .board in
-    cond (not (h .good)) 10
-    (cond (not (eqb (board-refusal b) 0)) (board-refusal b)
-    (cond (leb (b .p) (h .player)) 11
+    or-else (head-refusal h)
     (cond (not (eqb (length bs) (length (header b (h .player)) + grid-rows b * stride b + columns b * row-long b))) 12
-    (cond (marks-good (grid-rows b) b (h .rest)) 0 13))))
+    (cond (marks-good (grid-rows b) b (h .rest)) 0 13))
+
+-- the bytes behind the header
+abbrev pub body-long : Board → ℕ
+body-long b = grid-rows b * stride b + columns b * row-long b
+
+-- an accepted key of a board's player
+pub record Accepted-as (b : Board) (i : ℕ) (ks : List ℕ) : Type 0 where
+  pub none : key-refusal ks ≡ 0
+  pub board-is : head-in ks .board ≡ b
+  pub player-is : head-in ks .player ≡ i
+
+-- what stands behind the header of an accepted key of a board
+pub record Accepted-body (b : Board) (bs : List ℕ) : Type 0 where
+  pub board : board-refusal b ≡ 0
+  pub long : length bs ≡ body-long b
+  pub marks : marks-good (grid-rows b) b bs ≡ true
 
 -- OPENING A SQUARE ALONE
 

@@ -3,7 +3,6 @@
 // that is lent. Deal, the openings and the joins are crates of their own, passed on here, as are Check key and Held seed of the crate keys.
 // Assumes nothing.
 ghost use Rattle.call_answers.specs.Answers.{Long-says, Expand-says, Width-says, Sensor-says};
-ghost use mathlib.Core.Path.{_≡_};
 
 pub mod refusals;
 
@@ -18,18 +17,17 @@ use call_answers::refusals::REFUSED_SENSOR;
 use call_answers::refused;
 pub use deal_call::deal;
 use grid::board::Board;
-use grid::board::LEAST_PLAYERS;
-use grid::board::MOST_PLAYERS;
-use grid::board::MOST_POSITIONS;
-use grid::board::within;
+use grid::board::SEED_BYTES;
+use grid::board::players_fit;
+use grid::board::positions_fit;
 use grid::sensor::SENSORS;
 pub use join_keys_call::join_keys;
 pub use join_shares_call::join_shares;
-pub use key_check::check::KeyCheck;
 pub use key_check::check::check_key;
 pub use key_check::held::held_seed;
 pub use key_header::Header;
-use key_lengths::SEED_BYTES;
+pub use key_header::Heading;
+pub use key_header::KeyCheck;
 pub use open_call::open_all;
 pub use open_call::open_one;
 
@@ -58,10 +56,10 @@ pub fn key_length(players: u32, positions: u32, width: u32, value_bytes: u32) ->
 pub fn choose_width(players: u32, positions: u32) -> Answer
     ensures { λ r. ⌜ Width-says players positions r ⌝ }
 {
-    if !within(LEAST_PLAYERS, players, MOST_PLAYERS) {
+    if !players_fit(players) {
         return refused(REFUSED_PLAYERS);
     }
-    if !within(1, positions, MOST_POSITIONS) {
+    if !positions_fit(positions) {
         return refused(REFUSED_POSITIONS);
     }
     accepted(grid::width::choose_width(players, positions))

@@ -1,17 +1,20 @@
 -- What a C function leaves behind a pointer, from what the operation under it answers. Assumes nothing.
 use mathlib.Core.Path.{_≡_, refl, subst, subst⁻¹, _∙_}
 use mathlib.Core.Bool.{Bool, true, false, cond}
-use mathlib.Core.List.{List, []}
+use mathlib.Core.List.{List}
 use Prim.Native.Nat.{ℕ}
 use borrow.Author.Tests.{ne-eqb}
 use lib.Dec.{eqb}
 use Rattle.xor.specs.Xor.{bytes-good}
 use Rattle.keys.specs.Held.{held-seed-place, Held-at, Place-holds}
 use Rattle.keys.proofs.Holding.{place-holds}
-use Rattle.key_check.specs.Checked.{checked-as, key-checked}
-use Rattle.key_header.specs.declared.Header.{Header}
-use Rattle.key_check.specs.declared.check.KeyCheck.{KeyCheck}
-use Rattle.key_check.proofs.Says.{refused-says}
+use Rattle.keys.specs.Keys.{key-refusal}
+use Rattle.key_header.specs.Answers.{header-numbers, checked-by}
+use Rattle.key_header.specs.declared.Heading.{Heading}
+use Rattle.key_header.specs.declared.KeyCheck.{KeyCheck}
+use Rattle.key_header.proofs.Reading.{refused-says}
+use Rattle.key_check.specs.Checked.{checked-as}
+use Rattle.key_check.proofs.Checks.{check-tells}
 use Rattle.call_answers.specs.Answers.{says}
 use Rattle.call_answers.specs.declared.Answer.{Answer}
 use Rattle.nosingginger_c.specs.C.{Through, Value-put, Check-says, Held-says}
@@ -35,16 +38,17 @@ through n v a r o z s p =
     go true e f = (f ∙ e, refl)
     go false e f = (refl, f)
 
-pub check-refused : (ks o : List ℕ) (n : ℕ) → checked-as (KeyCheck.Refused n) ≡ key-checked ks → Check-says ks n o o
+pub check-refused : (ks o : List ℕ) (n : ℕ) → KeyCheck.Refused n ≡ checked-by (key-refusal ks) ks → Check-says ks n o o
 unfolding Check-says checked-as
 check-refused ks o n e =
-    let none : (n ≡ 0 → ⊥) = λ z. refused-says ks n e .1 (refused-says ks n e .0 ∙ z) in
-    rw (ne-eqb n 0 none) (e, refl)
+    let says = refused-says ks n _ e in
+    let none : (n ≡ 0 → ⊥) = λ z. says .1 (says .0 ∙ z) in
+    rw (ne-eqb n 0 none) (check-tells ks _ e, refl)
 
-pub check-accepted : (ks o z : List ℕ) (h : Header) → checked-as (KeyCheck.Accepted h) ≡ key-checked ks
-    → z ≡ checked-as (KeyCheck.Accepted h) .numbers → Check-says ks 0 o z
+pub check-accepted : (ks o z : List ℕ) (h : Heading) → KeyCheck.Accepted h ≡ checked-by (key-refusal ks) ks
+    → z ≡ header-numbers (h .header) → Check-says ks 0 o z
 unfolding Check-says checked-as
-check-accepted ks o z h e f = rw f (e, refl)
+check-accepted ks o z h e f = rw f (check-tells ks _ e, refl)
 
 -- the place that the operation tells, and what stands there
 pub held-told : (ks : List ℕ) (g j r : ℕ) → bytes-good ks ≡ true → r ≡ held-seed-place ks g j → Held-says ks g j r

@@ -7,7 +7,7 @@ use Prim.Native.Nat.{ℕ}
 use lib.Dec.{eqb}
 use Rattle.call_answers.specs.declared.Answer.{Answer}
 use Rattle.keys.specs.Held.{held-seed-place, Held-at}
-use Rattle.key_check.specs.Checked.{Checked, key-checked}
+use Rattle.key_check.specs.Checked.{key-checked}
 
 -- a number returned and a value behind a pointer, as the operation's one answer; where it is refused the value keeps what stood there
 unfoldable pub Through : (says : Answer → Type 0) → (r old new : ℕ) → Type 0

@@ -12,14 +12,8 @@ pub extern "C" fn nsg_check_key(key: &[u8], header: &mut [u32; 5]) -> u32
     match nosingginger::check_key(key) {
         KeyCheck::Refused(number) => number,
         KeyCheck::Accepted(read) => {
-            let board = read.board;
-            *header = [
-                board.players,
-                read.player,
-                board.positions,
-                board.width,
-                board.value_bytes,
-            ];
+            let numbers = read.header;
+            *header = numbers.numbers();
             ACCEPTED
         }
     }

@@ -2,11 +2,11 @@
 // row. The held seeds of a grid row stand one after another, so that all their rows are XORed at once, and the words after them. Crate
 // opening calls it for each grid row of a table, or for one square. Assumes nothing.
 use grid::board::Board;
-use key_header::part_from;
-use key_lengths::SEED_BYTES;
+use grid::board::SEED_BYTES;
 use key_lengths::mark_bytes;
 use key_lengths::stride;
 use key_marks::mark;
+use reader::part_from;
 use seed_rows::xor_rows;
 use writer::clear;
 use xor::xor_into;
@@ -15,7 +15,7 @@ ghost use mathlib.Core.Bool.{cond};
 ghost use Prim.Native.Nat.{_+_, _*_, _-_, _/_, _≤_, _<_};
 ghost use lib.ListN.{length, take, drop};
 ghost use Rattle.xor.specs.Xor.{xors, zeros};
-ghost use Rattle.chacha20.specs.Expand.{expand};
+ghost use Rattle.seed_rows.specs.Rows.{rule};
 ghost use Rattle.grid.specs.Grid.{board-refusal, columns, grid-rows, row-long};
 ghost use Rattle.grid.specs.Code.{board-of};
 ghost use Rattle.keys.specs.Keys.{mark-bytes, count-marks, stride};
@@ -81,7 +81,7 @@ pub fn add_part(part: &[u8], board: Board, grid_row: usize, out: &mut [u8])
         × (length (now part) ≡ (grid-rows (board-of board) - «grid_row») * stride (board-of board) + columns (board-of board) * row-long (board-of board))
         × (count-marks (columns (board-of board)) 0 (now part) ≡ columns (board-of board) / 2)
         × (length (now out) ≤ row-long (board-of board)) ⌝ }
-    ensures { λ r. ⌜ now (out .exit) ≡ xors (now (out .entry)) (shares (board-of board) (expand (row-long (board-of board))) (now (part .entry)) «grid_row» 0 (length (now (out .entry)))) ⌝ }
+    ensures { λ r. ⌜ now (out .exit) ≡ xors (now (out .entry)) (shares (board-of board) (rule (board-of board)) (now (part .entry)) «grid_row» 0 (length (now (out .entry)))) ⌝ }
 {
     xor_rows(grid_row_seeds(part, board), out);
     add_grid_row_words(part, board, grid_row, 0, out);
@@ -100,7 +100,7 @@ pub fn open_part(
         × (length (now part) ≡ (grid-rows (board-of board) - «grid_row») * stride (board-of board) + columns (board-of board) * row-long (board-of board))
         × (count-marks (columns (board-of board)) 0 (now part) ≡ columns (board-of board) / 2)
         × (now row ≡ zeros (from + length (now out))) × (from + length (now out) ≤ row-long (board-of board)) ⌝ }
-    ensures { λ r. ⌜ now (out .exit) ≡ shares (board-of board) (expand (row-long (board-of board))) (now (part .entry)) «grid_row» from (length (now (out .entry))) ⌝ }
+    ensures { λ r. ⌜ now (out .exit) ≡ shares (board-of board) (rule (board-of board)) (now (part .entry)) «grid_row» from (length (now (out .entry))) ⌝ }
 {
     xor_rows(grid_row_seeds(part, board), row);
     clear(out);

@@ -1,45 +1,45 @@
 // Opening an accepted key, the work of Open one and Open all behind their refusals: one square's share from the part of the key that
 // begins at its grid row, and the full table grid row by grid row, written or XORed into what is there (field: full-domain evaluation of a
 // key, and evaluation at one point). Both are stretches of a grid row's shares, which crate open_grid_row works out. Whoever calls has checked
-// the key and the room for the output. Assumes nothing.
-use key_header::Header;
-use key_header::part_from;
-use key_lengths::grid_row_from;
+// the key and the room for the output, and passes what stands behind the header. Assumes nothing.
+use grid::board::Board;
+use key_lengths::stride;
 use open_grid_row::add_part;
 use open_grid_row::open_part;
+use reader::part_from;
 use writer::clear;
 ghost use mathlib.Core.Path.{_≡_};
 ghost use Prim.Native.Nat.{_*_, _≤_, _<_, min};
 ghost use lib.ListN.{length};
 ghost use Rattle.xor.specs.Xor.{xors};
-ghost use Rattle.chacha20.specs.Expand.{expand};
-ghost use Rattle.grid.specs.Grid.{grid-rows, row-long};
+ghost use Rattle.writer.specs.Written.{in-front};
+ghost use Rattle.seed_rows.specs.Rows.{rule};
+ghost use Rattle.grid.specs.Grid.{board-refusal, grid-rows};
 ghost use Rattle.grid.specs.Code.{board-of};
-ghost use Rattle.keys.specs.Keys.{head-in, grid-row-part, opened, table};
-ghost use Rattle.open_key.specs.Accepted.{Accepted-with, in-front};
+ghost use Rattle.keys.specs.Keys.{Accepted-body, grid-row-part};
+ghost use Rattle.open_key.specs.Opened.{square-of, table-of};
 
-// The part of an accepted key that begins at a grid row.
-fn grid_row_part(key: &[u8], header: Header, grid_row: usize) -> &[u8]
-    requires { ⌜ Accepted-with (now key) «header» × («grid_row» < grid-rows (board-of («header» .board))) ⌝ }
-    ensures { λ r. ⌜ now r ≡ grid-row-part (board-of («header» .board)) (head-in (now (key .entry)) .rest) «grid_row» ⌝ }
+// The part that begins at a grid row.
+fn grid_row_part(body: &[u8], board: Board, grid_row: usize) -> &[u8]
+    requires { ⌜ (board-refusal (board-of board) ≡ 0) × («grid_row» ≤ grid-rows (board-of board)) ⌝ }
+    ensures { λ r. ⌜ now r ≡ grid-row-part (board-of board) (now (body .entry)) «grid_row» ⌝ }
 {
-    part_from(key, grid_row_from(header, grid_row))
+    part_from(body, grid_row * stride(board))
 }
 
-// Writes a square's share, worked out of the header's numbers and the part of the key that begins at the square's grid row. Rows are
+// Writes a square's share, worked out of the board's numbers and the part of the key that begins at the square's grid row. Rows are
 // expanded as far as the square's cell.
-pub fn open_square(key: &[u8], header: Header, position: u32, out: &mut [u8])
-    requires { ⌜ Accepted-with (now key) «header» × (position < «header» .board .positions) × («header» .board .«value_bytes» ≤ length (now out)) ⌝ }
-    ensures { λ r. ⌜ now (out .exit) ≡ in-front (opened (expand (row-long (board-of («header» .board)))) (now (key .entry)) position) (now (out .entry)) ⌝ }
+pub fn open_square(body: &[u8], board: Board, position: u32, out: &mut [u8])
+    requires { ⌜ Accepted-body (board-of board) (now body) × (position < board .positions) × (board .«value_bytes» ≤ length (now out)) ⌝ }
+    ensures { λ r. ⌜ now (out .exit) ≡ in-front (square-of (board-of board) (rule (board-of board)) (now (body .entry)) position) (now (out .entry)) ⌝ }
 {
-    let board = header.board;
     let mut scratch = [0u8; 4096];
     let grid_row = (position / board.width) as usize;
     let from = ((position % board.width) * board.value_bytes) as usize;
     let count = board.value_bytes as usize;
     let end = from + count;
     open_part(
-        grid_row_part(key, header, grid_row),
+        grid_row_part(body, board, grid_row),
         board,
         grid_row,
         from,
@@ -57,11 +57,10 @@ fn least(first: usize, second: usize) -> usize
 
 // XORs the full table into `out`, which has its length, grid row by grid row: each held seed is expanded once, and only as far as the table has
 // cells of its grid row. Rows and words have all cells of a short last grid row, the table those below N.
-pub fn add_table(key: &[u8], header: Header, out: &mut [u8])
-    requires { ⌜ Accepted-with (now key) «header» × (length (now out) ≡ «header» .board .positions * «header» .board .«value_bytes») ⌝ }
-    ensures { λ r. ⌜ now (out .exit) ≡ xors (now (out .entry)) (table (expand (row-long (board-of («header» .board)))) (now (key .entry))) ⌝ }
+pub fn add_table(body: &[u8], board: Board, out: &mut [u8])
+    requires { ⌜ Accepted-body (board-of board) (now body) × (length (now out) ≡ board .positions * board .«value_bytes») ⌝ }
+    ensures { λ r. ⌜ now (out .exit) ≡ xors (now (out .entry)) (table-of (board-of board) (rule (board-of board)) (now (body .entry))) ⌝ }
 {
-    let board = header.board;
     let grid_rows = board.grid_rows();
     let row_bytes = board.row_length();
     let mut grid_row: usize = 0;
@@ -69,7 +68,7 @@ pub fn add_table(key: &[u8], header: Header, out: &mut [u8])
         let at = grid_row * row_bytes;
         let end = at + least(row_bytes, out.len() - at);
         add_part(
-            grid_row_part(key, header, grid_row),
+            grid_row_part(body, board, grid_row),
             board,
             grid_row,
             &mut out[at..end],
@@ -79,20 +78,19 @@ pub fn add_table(key: &[u8], header: Header, out: &mut [u8])
 }
 
 // Fills `out` with the full table.
-fn fill_table(key: &[u8], header: Header, out: &mut [u8])
-    requires { ⌜ Accepted-with (now key) «header» × (length (now out) ≡ «header» .board .positions * «header» .board .«value_bytes») ⌝ }
-    ensures { λ r. ⌜ now (out .exit) ≡ table (expand (row-long (board-of («header» .board)))) (now (key .entry)) ⌝ }
+fn fill_table(body: &[u8], board: Board, out: &mut [u8])
+    requires { ⌜ Accepted-body (board-of board) (now body) × (length (now out) ≡ board .positions * board .«value_bytes») ⌝ }
+    ensures { λ r. ⌜ now (out .exit) ≡ table-of (board-of board) (rule (board-of board)) (now (body .entry)) ⌝ }
 {
     clear(out);
-    add_table(key, header, out);
+    add_table(body, board, out);
 }
 
 // Writes the full table.
-pub fn open_table(key: &[u8], header: Header, out: &mut [u8])
-    requires { ⌜ Accepted-with (now key) «header» × («header» .board .positions * «header» .board .«value_bytes» ≤ length (now out)) ⌝ }
-    ensures { λ r. ⌜ now (out .exit) ≡ in-front (table (expand (row-long (board-of («header» .board)))) (now (key .entry))) (now (out .entry)) ⌝ }
+pub fn open_table(body: &[u8], board: Board, out: &mut [u8])
+    requires { ⌜ Accepted-body (board-of board) (now body) × (board .positions * board .«value_bytes» ≤ length (now out)) ⌝ }
+    ensures { λ r. ⌜ now (out .exit) ≡ in-front (table-of (board-of board) (rule (board-of board)) (now (body .entry))) (now (out .entry)) ⌝ }
 {
-    let board = header.board;
     let count = (board.positions * board.value_bytes) as usize;
-    fill_table(key, header, &mut out[..count]);
+    fill_table(body, board, &mut out[..count]);
 }

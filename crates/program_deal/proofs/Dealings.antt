@@ -1,29 +1,22 @@
--- The laws of the dealing program: its five numbers are read as a header's, its lent parts are cut one behind another, its last numbers
+-- The laws of the dealing program: its five numbers are read one behind another, its lent parts are cut one behind another, its last numbers
 -- are Deal's with an output of the most bytes, and 65,537 bytes of its input are enough. Assumes nothing.
 use mathlib.Core.Path.{_≡_, refl, sym, ap, _∙_, subst}
 use mathlib.Core.Bool.{Bool, true, false, _||_, not, cond, false≢true}
 use mathlib.Core.List.{List}
 use Prim.Native.Nat.{ℕ, _+_, _*_, _-_, _≤_, _<_}
 use native.Mathlib.Omega.{arith}
-use native.Mathlib.Nat.{mul-le-mul}
 use lib.Dec.{ltb, leb, eqb}
-use lib.ListN.{length, take, drop, length-drop}
+use lib.ListN.{length, getD, take, drop, length-drop}
 use lib.Seq.{length-take-le, take-all}
 use borrow.Author.Tests.{lt-ltb, le-ltb, le-leb, lt-leb, ltb-true, ltb-false, leb-false, eqb-true, eq-eqb, ne-eqb, not-false}
-use Rattle.grid.specs.Grid.{Board, board, board-refusal, columns, grid-rows, row-long, arrays-good}
-use Rattle.grid.proofs.Facts.{board-in}
-use Rattle.grid.proofs.Sizes.{columns-few, row-most}
-use Rattle.keys.specs.Keys.{head-of, head-in, Lent, key-long, deal-refusal}
-use Rattle.key_header.specs.Answers.{heading-in}
-use Rattle.key_header.specs.declared.Reader.{Reader}
-use Rattle.key_header.specs.declared.Header.{Header}
-use Rattle.key_header.specs.declared.Heading.{Heading}
-use Rattle.key_header.proofs.Reading.{heading-says, heading-none}
-use Rattle.keys.proofs.Accepted.{passed, refusing}
-use Rattle.keys.proofs.Cut.{head-cut}
-use Rattle.call_answers.specs.Answers.{or-else, lent, Put-says, Deal-says}
-use Rattle.call_answers.proofs.Answering.{first-fits, next-fits}
-use Rattle.join_keys_call.proofs.InTurn.{neither}
+use Rattle.grid.specs.Grid.{Board, board, board-refusal, grid-rows, arrays-long, seeds-long, words-long, arrays-good}
+use Rattle.keys.specs.Keys.{numbers-in, Lent, lent, key-long, deal-refusal, or-else}
+use Rattle.key_header.specs.Answers.{five-at}
+use Rattle.key_header.specs.declared.numbers.Five.{Five}
+use Rattle.key_header.proofs.Reading.{five-rest}
+use Rattle.keys.proofs.Accepted.{passed, refusing, first-fits, next-fits, neither}
+use Rattle.keys.proofs.Cut.{numbers-cut}
+use Rattle.call_answers.specs.Answers.{Put-says, Deal-says}
 use Rattle.call_answers.proofs.Putting.{room-there, answer-is, put, untouched}
 use Rattle.text.specs.Text.{refused-line}
 use Rattle.text.proofs.Laws.{refused-most}
@@ -39,64 +32,52 @@ all-behind from xs = take-all (length xs - from) (drop from xs) (omega (arith, l
 
 -- THE FIVE NUMBERS
 
--- five numbers make an input as they make a header
-as-header : (bs : List ℕ) → input-in bs ≡ record {
-  good = head-in bs .good;
-  board = board (head-in bs .board .p) (head-in bs .player) (head-in bs .board .n) (head-in bs .board .wide);
-  point = head-in bs .board .w;
-  rest = head-in bs .rest;
-}
-unfolding input-in head-in head-of board
-as-header bs = refl
+module _ (bs : List ℕ) (five : Five) (read : five ≡ five-at bs) where
+  pub broken-input : five .whole ≡ false → dealing-output bs ≡ refused-line 10
+  unfolding dealing-output dealing-refusal input-in five-at
+  broken-input none =
+      let bad : numbers-in 5 bs .good ≡ false = sym (ap (λ (f : Five). f .whole) read) ∙ none in rw bad
 
-pub broken-input : (bs : List ℕ) → Heading.Broken ≡ heading-in bs → dealing-output bs ≡ refused-line 10
-unfolding dealing-output dealing-refusal
-broken-input bs e = rw (as-header bs, heading-none bs e)
+  module _ (whole : five .whole ≡ true) where
+    abbrev b : Board
+    b = board (getD (five .values) 0 0) (getD (five .values) 1 0) (getD (five .values) 2 0) (getD (five .values) 3 0)
 
--- the place behind them is inside
-pub inside : (bs : List ℕ) (h : Header) (next : Reader) → Heading.Whole h next ≡ heading-in bs → next .at ≤ length bs
-unfolding heading-in
-inside bs h next e = go (head-in bs .good) refl
-  where
-    go : (t : Bool) → head-in bs .good ≡ t → next .at ≤ length bs
-    go true good = let place : next .at ≡ length bs - length (head-in bs .rest) = cc in omega arith
-    go false good = let z : _≡_ {A = ℕ} 0 1 = cc in absurd (omega arith)
+    abbrev point : ℕ
+    point = getD (five .values) 4 0
 
-module _ (bs : List ℕ) (h : Header) (next : Reader) (read : Heading.Whole h next ≡ heading-in bs) where
-  abbrev b : Board
-  b = board (h .board .players) (h .player) (h .board .positions) (h .board .width)
+    abbrev rest : List ℕ
+    rest = drop (five .end) bs
 
-  abbrev rest : List ℕ
-  rest = drop (next .at) bs
+    abbrev asked : ℕ
+    asked = asked-refusal b point (length bs) (length bs - five .end)
 
-  abbrev asked : ℕ
-  asked = asked-refusal b (h .board .«value_bytes») (length bs) (length bs - next .at)
+    abbrev parts : Lent
+    parts = lent-in b point rest
 
-  abbrev parts : Lent
-  parts = lent-in b (h .board .«value_bytes») rest
+    read-so : input-in bs ≡ record { good = true; board = b; point = point; rest = rest }
+    unfolding input-in five-at
+    read-so =
+        let good : numbers-in 5 bs .good ≡ true = sym (ap (λ (f : Five). f .whole) read) ∙ whole in
+        let values : numbers-in 5 bs .values ≡ five .values = sym (ap (λ (f : Five). f .values) read) in rw (good, values, five-rest bs five read)
 
-  read-so : input-in bs ≡ record { good = true; board = b; point = h .board .«value_bytes»; rest = rest }
-  unfolding board
-  read-so = as-header bs ∙ rw (heading-says bs h next read)
+    chain : dealing-refusal bs ≡ or-else asked (lent-refusal b parts)
+    unfolding dealing-refusal
+    chain = rw (read-so, length-drop (five .end) bs)
 
-  chain : dealing-refusal bs ≡ or-else asked (lent-refusal b parts)
-  unfolding dealing-refusal
-  chain = rw (read-so, length-drop (next .at) bs)
+    accepted-input : asked ≡ 0 → dealing-output bs ≡ dealt-output b parts
+    unfolding dealing-output dealt-output
+    accepted-input none = rw (chain, next-fits asked (lent-refusal b parts) none, read-so)
 
-  accepted-input : asked ≡ 0 → dealing-output bs ≡ dealt-output b parts
-  unfolding dealing-output dealt-output
-  accepted-input none = rw (chain, next-fits asked (lent-refusal b parts) none, read-so)
+    pub asked-input : asked ≡ 0 → dealing-output bs ≡ dealt-output b (lent-in b point (take (length bs - five .end) (drop (five .end) bs)))
+    asked-input none = accepted-input none ∙ ap (λ (l : List ℕ). dealt-output b (lent-in b point l)) (sym (all-behind (five .end) bs))
 
-  pub asked-input : asked ≡ 0 → dealing-output bs ≡ dealt-output b (lent-in b (h .board .«value_bytes») (take (length bs - next .at) (drop (next .at) bs)))
-  asked-input none = accepted-input none ∙ ap (λ (l : List ℕ). dealt-output b (lent-in b (h .board .«value_bytes») l)) (sym (all-behind (next .at) bs))
+    pub refused-input : (n : ℕ) → n ≡ asked → (n ≡ 0 → ⊥) → dealing-output bs ≡ refused-line n
+    unfolding dealing-output
+    refused-input n e some =
+        let number : dealing-refusal bs ≡ n = chain ∙ first-fits asked (lent-refusal b parts) (λ z. some (e ∙ z)) ∙ sym e in rw (number, ne-eqb n 0 some)
 
-  pub rest-length : (n : ℕ) → length bs - next .at ≡ n → length (take (length bs - next .at) (drop (next .at) bs)) ≡ n
-  rest-length n e = ap length (all-behind (next .at) bs) ∙ length-drop (next .at) bs ∙ e
-
-  pub refused-input : (n : ℕ) → n ≡ asked → (n ≡ 0 → ⊥) → dealing-output bs ≡ refused-line n
-  unfolding dealing-output
-  refused-input n e some =
-      let number : dealing-refusal bs ≡ n = chain ∙ first-fits asked (lent-refusal b parts) (λ z. some (e ∙ z)) ∙ sym e in rw (number, ne-eqb n 0 some)
+pub rest-length : (from n : ℕ) (bs : List ℕ) → length bs - from ≡ n → length (take (length bs - from) (drop from bs)) ≡ n
+rest-length from n bs e = ap length (all-behind from bs) ∙ length-drop from bs ∙ e
 
 -- 1 TO 5, 6, 7
 
@@ -156,36 +137,24 @@ module _ (v c s w : ℕ) (xs : List ℕ) (long : length xs ≡ v + c + s + w) wh
   fourth-part = length-drop (v + c + s) xs ∙ omega arith
 
 -- the parts as the code cuts them
-cut : (b : Board) (a cells seeds words : ℕ) (xs : List ℕ) → cells ≡ grid-rows b * columns b → seeds ≡ b .w + cells → words ≡ seeds + 32 * cells →
+cut : (b : Board) (a seeds words : ℕ) (xs : List ℕ) → seeds ≡ b .w + arrays-long b → words ≡ seeds + seeds-long b →
     lent a (take (b .w) xs) (take (seeds - b .w) (drop (b .w) xs)) (take (words - seeds) (drop seeds xs)) (take (length xs - words) (drop words xs)) ≡ lent-in b a xs
 unfolding lent-in
-cut b a cells seeds words xs c s w =
-    let arrays : seeds - b .w ≡ cells = omega arith in
-    let held : words - seeds ≡ 32 * cells = omega arith in
-    rw (arrays, held, all-behind words xs, w, s, c)
+cut b a seeds words xs s w =
+    let arrays : seeds - b .w ≡ arrays-long b = omega arith in
+    let held : words - seeds ≡ seeds-long b = omega arith in
+    rw (arrays, held, all-behind words xs, w, s)
 
-pub deal-cut : (b : Board) (a cells seeds words : ℕ) (xs : List ℕ) (r : ℕ) (o z : List ℕ) → cells ≡ grid-rows b * columns b → seeds ≡ b .w + cells →
-    words ≡ seeds + 32 * cells →
+pub deal-cut : (b : Board) (a seeds words : ℕ) (xs : List ℕ) (r : ℕ) (o z : List ℕ) → seeds ≡ b .w + arrays-long b → words ≡ seeds + seeds-long b →
     Deal-says (b .p) (b .n) (b .wide) (b .w) a (take (b .w) xs) (take (seeds - b .w) (drop (b .w) xs)) (take (words - seeds) (drop seeds xs)) (take (length xs - words) (drop words xs)) r o z →
     Deals b (lent-in b a xs) r o z
-unfolding Deals lent
-deal-cut b a cells seeds words xs r o z c s w says = subst (λ (l : Lent). Deals b l r o z) (cut b a cells seeds words xs c s w) says
+unfolding Deals
+deal-cut b a seeds words xs r o z s w says = subst (λ (l : Lent). Deals b l r o z) (cut b a seeds words xs s w) says
 
 -- they stand inside
-pub parts-within : (b : Board) (xs : List ℕ) → length xs ≡ asked-bytes b → b .w + grid-rows b * columns b + 32 * (grid-rows b * columns b) ≤ length xs
+pub parts-within : (b : Board) (xs : List ℕ) → length xs ≡ asked-bytes b → b .w + arrays-long b + seeds-long b ≤ length xs
 unfolding asked-bytes
 parts-within b xs long = omega arith
-
--- a product as the code makes it
-pub times-same : {n m a b : ℕ} → n ≡ a → m ≡ b → n * m ≡ a * b
-times-same p q = rw (p, q)
-
--- the words that are asked for
-pub words-most : (b : Board) → board-refusal b ≡ 0 → (columns b - 1) * row-long b ≤ 131072
-words-most b accepted =
-    let f = board-in b accepted in
-    let fewer : columns b - 1 ≤ 32 = omega (arith, columns-few b f) in
-    mul-le-mul fewer (row-most b f)
 
 -- 8 comes before 9
 eight-nine : (t : Bool) (n : ℕ) → or-else (cond t 0 8) n ≡ cond (not t) 8 n
@@ -197,20 +166,21 @@ module _ (b : Board) (a : ℕ) (xs : List ℕ) (accepted : board-refusal b ≡ 0
   arrays : Bool
   arrays = arrays-good (grid-rows b) 0 b a (lent-in b a xs .arrays)
 
-  lengths : length xs ≡ b .w + grid-rows b * columns b + 32 * (grid-rows b * columns b) + (columns b - 1) * row-long b
+  lengths : length xs ≡ b .w + arrays-long b + seeds-long b + words-long b
   unfolding asked-bytes
   lengths = long
 
   -- Deal asks only 8 of them
   deal-asks : deal-refusal b (lent-in b a xs) ≡ cond arrays 0 8
-  unfolding deal-refusal lent-in lent arrays
+  unfolding deal-refusal lent-in arrays
   deal-asks =
-      let cells = grid-rows b * columns b in
-      let words = (columns b - 1) * row-long b in
-      let one = eq-eqb (length (take (b .w) xs)) (b .w) (first-part (b .w) cells (32 * cells) words xs lengths) in
-      let two = eq-eqb (length (take cells (drop (b .w) xs))) cells (second-part (b .w) cells (32 * cells) words xs lengths) in
-      let three = eq-eqb (length (take (32 * cells) (drop (b .w + cells) xs))) (32 * cells) (third-part (b .w) cells (32 * cells) words xs lengths) in
-      let four = eq-eqb (length (drop (b .w + cells + 32 * cells) xs)) words (fourth-part (b .w) cells (32 * cells) words xs lengths) in
+      let cells = arrays-long b in
+      let seeds = seeds-long b in
+      let words = words-long b in
+      let one = eq-eqb (length (take (b .w) xs)) (b .w) (first-part (b .w) cells seeds words xs lengths) in
+      let two = eq-eqb (length (take cells (drop (b .w) xs))) cells (second-part (b .w) cells seeds words xs lengths) in
+      let three = eq-eqb (length (take seeds (drop (b .w + cells) xs))) seeds (third-part (b .w) cells seeds words xs lengths) in
+      let four = eq-eqb (length (drop (b .w + cells + seeds) xs)) words (fourth-part (b .w) cells seeds words xs lengths) in
       rw (accepted, lt-leb (b .n) a point, one, two, three, four)
 
   -- the keys are as long as they are asked, where the arrays are in order
@@ -221,12 +191,12 @@ module _ (b : Board) (a : ℕ) (xs : List ℕ) (accepted : board-refusal b ≡ 0
   -- 8, 9: with an output of the most bytes, Deal's numbers are the program's
   program-asks : (room : ℕ) → room ≡ 65536 →
       or-else (deal-refusal b (lent-in b a xs)) (cond (ltb room (b .p * key-long b)) 9 0) ≡ lent-refusal b (lent-in b a xs)
-  unfolding lent-refusal lent-in lent arrays
+  unfolding lent-refusal lent-in arrays
   program-asks room is = rw (deal-asks, is) (eight-nine arrays (cond (ltb 65536 (b .p * key-long b)) 9 0))
 
   -- where neither refuses, the keys are as many as asked, and not above the most
   pub dealt-keys : lent-refusal b (lent-in b a xs) ≡ 0 → (length (keys-of b (lent-in b a xs)) ≡ b .p * key-long b) × (b .p * key-long b ≤ 65536)
-  unfolding lent-refusal lent-in lent arrays
+  unfolding lent-refusal lent-in arrays
   dealt-keys z =
       let eight = passed (not arrays) 8 _ (λ t n. omega arith) z in
       (keys-fit (not-false arrays (eight .0)), room-there 65536 (b .p * key-long b) (eight .1))
@@ -234,7 +204,7 @@ module _ (b : Board) (a : ℕ) (xs : List ℕ) (accepted : board-refusal b ≡ 0
   -- what Deal leaves in such an output
   module _ (r : ℕ) (o z : List ℕ) (room : length o ≡ 65536) (says : Deals b (lent-in b a xs) r o z) where
     as-put : Put-says (lent-refusal b (lent-in b a xs)) (keys-of b (lent-in b a xs)) r o z
-    unfolding Deals Deal-says keys-of board lent
+    unfolding Deals Deal-says keys-of board
     as-put = subst (λ (n : ℕ). Put-says n (keys-of b (lent-in b a xs)) r o z) (program-asks (length o) room) says
 
     number : r ≡ lent-refusal b (lent-in b a xs)
@@ -294,9 +264,8 @@ module _ (bs : List ℕ) (above : 65536 < length bs) where
 
 -- the numbers of an input are those of its first bytes
 cut-number : (n : ℕ) (bs : List ℕ) → 15 ≤ n → long-number (input-in (take n bs)) ≡ long-number (input-in bs)
-unfolding long-number
-cut-number n bs h =
-    let same = head-cut n bs h in rw (as-header (take n bs), as-header bs, same .good, same .board, same .player)
+unfolding long-number input-in
+cut-number n bs h = let same = numbers-cut 5 n bs h in rw (same .good, same .values)
 
 pub dealing-enough : {n : ℕ} → 65536 < n → Enough n dealing-output
 unfolding Enough

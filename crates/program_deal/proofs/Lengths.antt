@@ -13,7 +13,7 @@ use Rattle.keys.specs.Keys.{header, packed, mark-bytes, held-seeds, body-from, 
 use Rattle.keys.specs.Keys.{Lent, dealing, key, keys-from, key-long, deal-refusal}
 use Rattle.keys.proofs.Lists.{glue-words}
 use Rattle.chacha20.proofs.Stream.{word-expand}
-use Rattle.call_answers.specs.Answers.{rule}
+use Rattle.seed_rows.specs.Rows.{rule}
 use Rattle.promises.proofs.DealtKeys.{lent-accepted, keys-length}
 
 -- ONE LENGTH AND ANOTHER
@@ -114,7 +114,7 @@ module _ (b : Board) (l : Lent) where
   rows seed = rule b seed
 
   last-same : length (last-word b (dealing b rows l)) ≡ length (last-word b (dealing b rows (blank l)))
-  unfolding last-word dealing piece rule
+  unfolding last-word dealing piece
   last-same =
       let from = zeros (l .point % b .wide * b .w) in
       let behind = zeros (row-long b - suc (l .point % b .wide) * b .w) in

@@ -1,14 +1,15 @@
 -- The dealing program as a function from the input's bytes to the output's: document 01's "Two programs", whose sentences are quoted.
 -- Assumes nothing: these are definitions.
 use mathlib.Core.Path.{_≡_}
-use mathlib.Core.Bool.{Bool, _&&_, _||_, not, cond}
+use mathlib.Core.Bool.{Bool, _||_, not, cond}
 use mathlib.Core.List.{List}
-use Prim.Native.Nat.{ℕ, _+_, _*_, _-_}
+use Prim.Native.Nat.{ℕ, _+_, _*_}
 use lib.Dec.{ltb, leb, eqb}
-use lib.ListN.{length, take, drop}
-use Rattle.grid.specs.Grid.{Board, board, board-refusal, columns, grid-rows, row-long, arrays-good}
-use Rattle.keys.specs.Keys.{number-in, Lent, key-long, keys-from}
-use Rattle.call_answers.specs.Answers.{or-else, lent, rule, Deal-says}
+use lib.ListN.{length, getD, take, drop}
+use Rattle.grid.specs.Grid.{Board, board, board-refusal, grid-rows, arrays-long, seeds-long, words-long, arrays-good}
+use Rattle.keys.specs.Keys.{numbers-in, Lent, key-long, keys-from, or-else, lent}
+use Rattle.call_answers.specs.Answers.{Deal-says}
+use Rattle.seed_rows.specs.Rows.{rule}
 use Rattle.text.specs.Text.{refused-line}
 use Rattle.program_output.specs.Output.{most-bytes, read-bytes, Writes, Of-read, Enough, Fits}
 
@@ -21,28 +22,22 @@ pub record Input : Type 0 where
 
 unfoldable pub input-in : List ℕ → Input
 input-in bs =
-    let p = number-in bs in
-    let n = number-in (p .rest) in
-    let m = number-in (n .rest) in
-    let w = number-in (m .rest) in
-    let a = number-in (w .rest) in
+    let five = numbers-in 5 bs in
     record {
-      good = (p .good && n .good) && (m .good && (w .good && a .good));
-      board = board (p .value) (n .value) (m .value) (w .value);
-      point = a .value;
-      rest = a .rest;
+      good = five .good;
+      board = board (getD (five .values) 0 0) (getD (five .values) 1 0) (getD (five .values) 2 0) (getD (five .values) 3 0);
+      point = getD (five .values) 4 0;
+      rest = five .rest;
     }
 
 -- how many bytes are asked for behind the five numbers: value, arrays, seeds, words
 unfoldable pub asked-bytes : Board → ℕ
-asked-bytes b =
-    let cells = grid-rows b * columns b in b .w + cells + 32 * cells + (columns b - 1) * row-long b
+asked-bytes b = b .w + arrays-long b + seeds-long b + words-long b
 
 -- the lent parts, one behind another
 unfoldable pub lent-in : Board → (point : ℕ) → (rest : List ℕ) → Lent
 lent-in b a bs =
-    let cells = grid-rows b * columns b in
-    lent a (take (b .w) bs) (take cells (drop (b .w) bs)) (take (32 * cells) (drop (b .w + cells) bs)) (drop (b .w + cells + 32 * cells) bs)
+    lent a (take (b .w) bs) (take (arrays-long b) (drop (b .w) bs)) (take (seeds-long b) (drop (b .w + arrays-long b) bs)) (drop (b .w + arrays-long b + seeds-long b) bs)
 
 -- the numbers that the lengths and the five numbers decide: 1 to 5, 6, and "7 on the whole input"
 unfoldable pub asked-refusal : Board → (point whole rest : ℕ) → ℕ

@@ -2,40 +2,29 @@
 // output has room for the most bytes by its type, so that Deal's 9 is the program's. It requires nothing. Its meaning is
 // specs/Dealing.antt. Assumes nothing.
 use grid::board::Board;
-use key_check::check::REFUSED_NUMBER;
-use key_header::Heading;
-use key_header::header_in;
+use key_header::numbers::five_numbers;
 use key_lengths::key_length;
 use nosingginger::deal;
 use nosingginger::refusals::ACCEPTED;
 use nosingginger::refusals::REFUSED_LENT;
+use nosingginger::refusals::REFUSED_NUMBER;
 use nosingginger::refusals::REFUSED_POINT;
 use program_output::MOST_BYTES;
 use program_output::put_refusal;
 ghost use mathlib.Core.Path.{_≡_};
-ghost use Prim.Native.Nat.{_*_, _≤_, _<_};
+ghost use Prim.Native.Nat.{_*_, _<_};
 ghost use lib.ListN.{length};
-ghost use Rattle.grid.specs.Grid.{board-refusal, columns, grid-rows};
+ghost use Rattle.grid.specs.Grid.{board-refusal};
 ghost use Rattle.grid.specs.Code.{board-of};
 ghost use Rattle.program_output.specs.Output.{Writes, most-bytes};
 ghost use Rattle.program_deal.specs.Dealing.{asked-bytes, asked-refusal, lent-in, Deals, dealt-output, dealing-output, Deals-read, Dealing-whole};
-
-// Columns of all grid rows together.
-fn all_columns(board: Board) -> usize
-    requires { ⌜ board-refusal (board-of board) ≡ 0 ⌝ }
-    ensures { λ r. ⌜ (r ≡ grid-rows (board-of board) * columns (board-of board)) × (r ≤ 8192) ⌝ }
-{
-    board.grid_rows() * board.columns()
-}
 
 // The bytes that are asked for behind the five numbers: value, arrays, seeds, words.
 fn asked_bytes(board: Board) -> usize
     requires { ⌜ board-refusal (board-of board) ≡ 0 ⌝ }
     ensures { λ r. ⌜ r ≡ asked-bytes (board-of board) ⌝ }
 {
-    let columns = all_columns(board);
-    let words = (board.columns() - 1) * board.row_length();
-    board.value_bytes as usize + columns + 32 * columns + words
+    board.value_bytes as usize + board.arrays_length() + board.seeds_length() + board.words_length()
 }
 
 // 1 to 5, 6, 7: what the five numbers and the lengths decide, of the whole input and of what stands behind the numbers.
@@ -63,10 +52,9 @@ fn deal_parts(board: Board, point: u32, rest: &[u8], keys: &mut [u8]) -> u32
     requires { ⌜ (board-refusal (board-of board) ≡ 0) × (length (now rest) ≡ asked-bytes (board-of board)) ⌝ }
     ensures { λ r. ⌜ Deals (board-of board) (lent-in (board-of board) point (now (rest .entry))) r (now (keys .entry)) (now (keys .exit)) ⌝ }
 {
-    let columns = all_columns(board);
     let arrays = board.value_bytes as usize;
-    let seeds = arrays + columns;
-    let words = seeds + 32 * columns;
+    let seeds = arrays + board.arrays_length();
+    let words = seeds + board.seeds_length();
     deal(
         board.players,
         board.positions,
@@ -95,23 +83,24 @@ fn put_dealt(board: Board, point: u32, rest: &[u8], output: &mut [u8]) -> usize
     put_refusal(refusal, output)
 }
 
-// THE DEALING PROGRAM: 10, 1 to 5, 6, 7, 8, 9; or the keys. Its five numbers are read as those of a header are, which are five too.
+// THE DEALING PROGRAM: 10, 1 to 5, 6, 7, 8, 9; or the keys.
 pub fn dealing_program(input: &[u8], output: &mut [u8; 65536]) -> usize
     ensures { λ r. ⌜ Writes (dealing-output (now (input .entry))) r (now (output .entry)) (now (output .exit)) ⌝ }
 {
     let out: &mut [u8] = output;
-    let Heading::Whole(numbers, reader) = header_in(input) else {
+    let read = five_numbers(input);
+    if !read.whole {
         return put_refusal(REFUSED_NUMBER, out);
-    };
-    let four = numbers.board;
+    }
+    let values = read.values;
     let board = Board {
-        players: four.players,
-        positions: numbers.player,
-        width: four.positions,
-        value_bytes: four.width,
+        players: values[0],
+        positions: values[1],
+        width: values[2],
+        value_bytes: values[3],
     };
-    let point = four.value_bytes;
-    let at = reader.at;
+    let point = values[4];
+    let at = read.end;
     let refusal = asked_refusal(board, point, input.len(), input.len() - at);
     if refusal != ACCEPTED {
         return put_refusal(refusal, out);

@@ -1,7 +1,7 @@
 -- The laws of the joining program: its numbers are Join keys' with a table of 65,536 bytes, but for inputs that are longer than any, of
 -- which 65,537 bytes are enough. Assumes nothing.
 use mathlib.Core.Path.{_≡_, refl, sym, ap, _∙_, subst}
-use mathlib.Core.Bool.{Bool, true, false, not}
+use mathlib.Core.Bool.{Bool, true, false}
 use mathlib.Core.List.{List}
 use Prim.Native.Nat.{ℕ, _+_, _*_, _≤_, _<_}
 use native.Mathlib.Omega.{arith}
@@ -9,23 +9,21 @@ use lib.Dec.{ltb, eqb}
 use lib.ListN.{length, take, replicate, length-replicate}
 use lib.Seq.{length-take-le, take-all}
 use borrow.Author.Tests.{lt-ltb, le-ltb, ltb-true, ltb-false, eqb-true, ne-eqb}
-use Rattle.writer.specs.Written.{Wrote}
+use Rattle.writer.specs.Written.{Wrote, in-front}
 use Rattle.xor.specs.Xor.{bytes-good}
 use Rattle.grid.specs.Grid.{Board, board}
 use Rattle.grid.specs.Code.{board-of}
 use Rattle.grid.proofs.Facts.{Board-in, board-in}
-use Rattle.keys.specs.Keys.{head-in, Head}
-use Rattle.keys.proofs.Accepted.{passed}
+use Rattle.keys.specs.Keys.{head-in, or-else, head-refusal}
+use Rattle.keys.proofs.Accepted.{first-fits, next-fits, neither, head-fine}
 use Rattle.keys.proofs.Cut.{head-cut}
-use Rattle.key_header.specs.Answers.{heading-in}
-use Rattle.key_header.specs.declared.Reader.{Reader}
-use Rattle.key_header.specs.declared.Header.{Header}
+use Rattle.key_header.specs.Answers.{checked-by}
 use Rattle.key_header.specs.declared.Heading.{Heading}
-use Rattle.key_header.proofs.Reading.{heading-says, heading-none}
-use Rattle.call_answers.specs.Answers.{or-else, in-front, Put-says}
-use Rattle.join_keys_call.specs.JoinKeys.{numbers-refusal, head-refusal, keys-refusal, joined-table, Join-keys-says}
-use Rattle.call_answers.proofs.Answering.{first-fits, next-fits, put-refused, put-done}
-use Rattle.join_keys_call.proofs.InTurn.{neither, numbers-fine}
+use Rattle.key_header.specs.declared.KeyCheck.{KeyCheck}
+use Rattle.key_header.proofs.Reading.{refused-says, accepted-says}
+use Rattle.call_answers.specs.Answers.{Put-says}
+use Rattle.join_keys_call.specs.JoinKeys.{keys-refusal, joined-table, Join-keys-says}
+use Rattle.call_answers.proofs.Answering.{put-refused, put-done}
 use Rattle.call_answers.proofs.Putting.{answer-is, put, untouched, take-front}
 use Rattle.promises.proofs.JoinedKeys.{Joined, joined-says, joined-word}
 use Rattle.text.specs.Text.{refused-line, table-text}
@@ -37,20 +35,11 @@ use Rattle.program_join.specs.Joining.{joining-refusal, joined, joining-
 -- THE FIRST KEY'S OWN NUMBERS, OR ELSE 12
 
 module _ (bs : List ℕ) where
-  pub long-number : Heading.Broken ≡ heading-in bs → 10 ≡ or-else (head-refusal (head-in bs)) 12
-  unfolding head-refusal or-else
-  long-number e = rw (heading-none bs e)
+  pub long-own : (n : ℕ) → KeyCheck.Refused n ≡ checked-by (head-refusal (head-in bs)) bs → n ≡ or-else (head-refusal (head-in bs)) 12
+  long-own n e = let says = refused-says bs n _ e in sym (first-fits (head-refusal (head-in bs)) 12 (says .1) ∙ says .0)
 
-  module _ (h : Header) (next : Reader) (read : Heading.Whole h next ≡ heading-in bs) where
-    own : head-refusal (head-in bs) ≡ numbers-refusal (board-of (h .board)) (h .player)
-    unfolding head-refusal
-    own = rw (heading-says bs h next read)
-
-    pub long-own : (n : ℕ) → n ≡ numbers-refusal (board-of (h .board)) (h .player) → (n ≡ 0 → ⊥) → n ≡ or-else (head-refusal (head-in bs)) 12
-    long-own n e some = e ∙ sym own ∙ sym (first-fits (head-refusal (head-in bs)) 12 (λ z. some (e ∙ sym own ∙ z)))
-
-    pub long-length : 0 ≡ numbers-refusal (board-of (h .board)) (h .player) → 12 ≡ or-else (head-refusal (head-in bs)) 12
-    long-length e = sym (next-fits (head-refusal (head-in bs)) 12 (own ∙ sym e))
+  pub long-length : (h : Heading) → KeyCheck.Accepted h ≡ checked-by (head-refusal (head-in bs)) bs → 12 ≡ or-else (head-refusal (head-in bs)) 12
+  long-length h e = sym (next-fits (head-refusal (head-in bs)) 12 (accepted-says bs h _ e .none))
 
 -- AS JOIN KEYS
 
@@ -82,9 +71,8 @@ head-accepted : (bs : List ℕ) → joining-refusal bs ≡ 0 → head-refusal (h
 unfolding joining-refusal
 head-accepted bs z = neither (head-refusal (head-in bs)) _ z .0
 
-pub broken-refused : (bs : List ℕ) → Heading.Broken ≡ heading-in bs → joining-refusal bs ≡ 0 → ⊥
-broken-refused bs e z =
-    let same : _≡_ {A = ℕ} 10 12 = long-number bs e ∙ next-fits (head-refusal (head-in bs)) 12 (head-accepted bs z) in omega arith
+pub header-fine : (bs : List ℕ) (n : ℕ) → KeyCheck.Refused n ≡ checked-by (head-refusal (head-in bs)) bs → joining-refusal bs ≡ 0 → ⊥
+header-fine bs n e z = refused-says bs n _ e .1 (head-accepted bs z)
 
 -- what Join keys would say of it, lent as much as it may ask for
 module _ (bs : List ℕ) (accepted : joining-refusal bs ≡ 0) where
@@ -152,11 +140,7 @@ joins-within bs r t u o z says = writes-within (joining-output bs) r o z (says .
 
 -- the board of an accepted input is in its range
 accepted-board : (bs : List ℕ) → joining-refusal bs ≡ 0 → Board-in (head-in bs .board)
-unfolding head-refusal
-accepted-board bs z =
-    let h = head-in bs in
-    let ten = passed (not (h .good)) 10 _ (λ t n. omega arith) (head-accepted bs z) in
-    board-in (h .board) (numbers-fine (h .board) (h .player) (ten .1) .0)
+accepted-board bs z = board-in (head-in bs .board) (head-fine (head-in bs) (head-accepted bs z) .1)
 
 -- and the text of a table of that board is short
 text-most : (bs : List ℕ) → joining-refusal bs ≡ 0 → (p : ℕ) (ts : List ℕ) →
@@ -167,26 +151,26 @@ text-most bs z p ts =
     omega (arith, table-most p (b .n) (b .w) ts few, table-fits bs z)
 
 -- the header of an accepted input, as the code has it
-module _ (bs : List ℕ) (h : Header) (next : Reader) (read : Heading.Whole h next ≡ heading-in bs) where
-  same-board : head-in bs .board ≡ board-of (h .board)
-  same-board = ap (λ (x : Head). x .board) (heading-says bs h next read)
+module _ (bs : List ℕ) (h : Heading) (read : KeyCheck.Accepted h ≡ checked-by (head-refusal (head-in bs)) bs) where
+  same-board : head-in bs .board ≡ board-of (h .header .board)
+  same-board = accepted-says bs h _ read .board-is
 
-  pub table-size : joining-refusal bs ≡ 0 → h .board .positions * h .board .«value_bytes» ≤ 65536
+  pub table-size : joining-refusal bs ≡ 0 → h .header .board .positions * h .header .board .«value_bytes» ≤ 65536
   unfolding board
   table-size z = subst (λ (b : Board). b .n * b .w ≤ 65536) same-board (table-fits bs z)
 
   pub table-cut : joining-refusal bs ≡ 0 → (t : List ℕ) → length t ≡ 65536 →
-      length (take (h .board .positions * h .board .«value_bytes») t) ≡ h .board .positions * h .board .«value_bytes»
-  table-cut z t room = length-take-le (h .board .positions * h .board .«value_bytes») t (omega (arith, table-size z))
+      length (take (h .header .board .positions * h .header .board .«value_bytes») t) ≡ h .header .board .positions * h .header .board .«value_bytes»
+  table-cut z t room = length-take-le (h .header .board .positions * h .header .board .«value_bytes») t (omega (arith, table-size z))
 
   pub text-room : joining-refusal bs ≡ 0 → (p : ℕ) (ts : List ℕ) (most : ℕ) → 589879 ≤ most →
-      0 + length (table-text p (h .board .positions) (h .board .«value_bytes») ts) ≤ most
+      0 + length (table-text p (h .header .board .positions) (h .header .board .«value_bytes») ts) ≤ most
   unfolding board
   text-room z p ts most enough =
       let short = subst (λ (b : Board). length (table-text p (b .n) (b .w) ts) ≤ 589879) same-board (text-most bs z p ts) in omega arith
 
   pub named-board : (answer : ℕ) (t o z : List ℕ) (p n w : ℕ) → Wrote 0 (table-text p n w (take (n * w) t)) answer o z →
-      p ≡ h .board .players → n ≡ h .board .positions → w ≡ h .board .«value_bytes» →
+      p ≡ h .header .board .players → n ≡ h .header .board .positions → w ≡ h .header .board .«value_bytes» →
       Writes (table-text (head-in bs .board .p) (head-in bs .board .n) (head-in bs .board .w) (take (head-in bs .board .n * head-in bs .board .w) t)) answer o z
   unfolding board
   named-board answer t o z p n w says players positions value =

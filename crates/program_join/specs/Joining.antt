@@ -6,9 +6,9 @@ use mathlib.Core.List.{List}
 use Prim.Native.Nat.{ℕ, _*_}
 use lib.Dec.{ltb, eqb}
 use lib.ListN.{length}
-use Rattle.keys.specs.Keys.{head-in, key-long}
-use Rattle.call_answers.specs.Answers.{or-else, in-front}
-use Rattle.join_keys_call.specs.JoinKeys.{head-refusal, places-refusal, joined-table}
+use Rattle.keys.specs.Keys.{head-in, key-long, or-else, head-refusal}
+use Rattle.writer.specs.Written.{in-front}
+use Rattle.join_keys_call.specs.JoinKeys.{places-refusal, joined-table}
 use Rattle.text.specs.Text.{refused-line, table-text}
 use Rattle.program_output.specs.Output.{most-bytes, read-bytes, text-bytes, Writes, Of-read, Enough, Fits}
 

@@ -2,10 +2,8 @@
 // that it joins in has the most bytes by its type, so that Join keys' 9 is the program's, and the output has room for every text. It requires
 // nothing. Its meaning is specs/Joining.antt. Assumes nothing.
 use key_check::check::REFUSED_LENGTH;
-use key_check::check::REFUSED_NUMBER;
-use key_check::check::REFUSED_PLAYER;
-use key_header::Heading;
-use key_header::header_in;
+use key_header::KeyCheck;
+use key_header::check_header;
 use nosingginger::join_keys;
 use nosingginger::refusals::ACCEPTED;
 use program_output::MOST_BYTES;
@@ -13,10 +11,9 @@ use program_output::put_refusal;
 ghost use mathlib.Core.Path.{_≡_};
 ghost use Prim.Native.Nat.{_*_, _≤_};
 ghost use lib.ListN.{length, take};
-ghost use Rattle.keys.specs.Keys.{head-in};
+ghost use Rattle.keys.specs.Keys.{head-in, or-else, head-refusal};
 ghost use Rattle.text.specs.Text.{table-text};
-ghost use Rattle.call_answers.specs.Answers.{or-else, Put-says};
-ghost use Rattle.join_keys_call.specs.JoinKeys.{head-refusal};
+ghost use Rattle.call_answers.specs.Answers.{Put-says};
 ghost use Rattle.program_output.specs.Output.{most-bytes, text-bytes, Writes};
 ghost use Rattle.program_join.specs.Joining.{joining-refusal, joined, Joins, Joins-read, Joining-whole};
 
@@ -24,18 +21,10 @@ ghost use Rattle.program_join.specs.Joining.{joining-refusal, joined, Jo
 fn long_refusal(input: &[u8]) -> u32
     ensures { λ r. ⌜ r ≡ or-else (head-refusal (head-in (now (input .entry)))) 12 ⌝ }
 {
-    let Heading::Whole(header, _) = header_in(input) else {
-        return REFUSED_NUMBER;
-    };
-    let board = header.board;
-    let refusal = board.refusal();
-    if refusal != ACCEPTED {
-        return refusal;
+    match check_header(input) {
+        KeyCheck::Refused(number) => number,
+        KeyCheck::Accepted(_) => REFUSED_LENGTH,
     }
-    if board.players <= header.player {
-        return REFUSED_PLAYER;
-    }
-    REFUSED_LENGTH
 }
 
 // Joins the keys of an input into the front of a table, or answers the number that refuses.
@@ -55,9 +44,10 @@ fn put_joined(input: &[u8], table: &[u8], output: &mut [u8]) -> usize
     requires { ⌜ (length (now table) ≡ most-bytes) × (text-bytes ≤ length (now output)) ⌝ }
     ensures { λ r. ⌜ Writes (table-text (head-in (now (input .entry)) .board .p) (head-in (now (input .entry)) .board .n) (head-in (now (input .entry)) .board .w) (take (head-in (now (input .entry)) .board .n * head-in (now (input .entry)) .board .w) (now (table .entry)))) r (now (output .entry)) (now (output .exit)) ⌝ }
 {
-    let Heading::Whole(header, _) = header_in(input) else {
+    let KeyCheck::Accepted(heading) = check_header(input) else {
         return 0;
     };
+    let header = heading.header;
     let board = header.board;
     let end = (board.positions * board.value_bytes) as usize;
     text::put_table(

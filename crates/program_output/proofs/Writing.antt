@@ -11,14 +11,13 @@ use lib.Seq.{take-all}
 use borrow.Author.Tests.{ltb-true, ltb-false}
 use Rattle.writer.specs.Written.{Wrote}
 use Rattle.writer.proofs.Laws.{written-front}
-use Rattle.call_answers.specs.Answers.{in-front}
 use Rattle.text.specs.Text.{refused-line}
 use Rattle.program_output.specs.Output.{Writes, Read-of, Of-read}
 
 -- WHAT IS WRITTEN
 
 pub writes-wrote : {r : ℕ} (bs : List ℕ) {o z : List ℕ} → Wrote 0 bs r o z → Writes bs r o z
-unfolding Writes in-front
+unfolding Writes
 writes-wrote {r} bs {o} {z} p = (p .next-is ∙ zero-add (length bs), p .now-is ∙ written-front bs o)
 
 -- the same bytes by another name
@@ -31,7 +30,7 @@ writes-line n m r o z bs w same e = writes-as bs (refused-line n) r o z (e ∙ a
 
 -- no more is written than there is room for
 pub writes-within : (bs : List ℕ) (r : ℕ) (o z : List ℕ) → Writes bs r o z → r ≤ length z
-unfolding Writes in-front
+unfolding Writes
 writes-within bs r o z w = omega (arith, w .0, ap length (w .1), length-append bs (drop (length bs) o))
 
 -- one output or another

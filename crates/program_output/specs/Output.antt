@@ -4,7 +4,7 @@ use mathlib.Core.Path.{_≡_}
 use mathlib.Core.List.{List}
 use Prim.Native.Nat.{ℕ, _≤_, _<_}
 use lib.ListN.{length, take}
-use Rattle.call_answers.specs.Answers.{in-front}
+use Rattle.writer.specs.Written.{in-front}
 
 -- "Above 65,536 bytes, its input is 7, its output 9, the joining program's input 12 and its table 9, each at its place in the order."
 abbrev pub most-bytes : ℕ

@@ -1,25 +1,26 @@
 -- The promises of specs/Calls.antt, each under its statement's name in small letters, from the contracts alone: what a call leaves with the
 -- answer 0 is a definition's bytes, and of those the promises of the crate keys hold under expansion. Assumes nothing.
 use mathlib.Core.Path.{_≡_, sym, ap, _∙_}
-use mathlib.Core.Bool.{_&&_, not}
+use mathlib.Core.Bool.{not}
 use mathlib.Core.List.{List, [], _∷_}
 use Prim.Native.Nat.{ℕ, zero, suc, _+_, _*_, _≤_}
 use native.Mathlib.Omega.{arith}
-use lib.Dec.{leb, eqb}
+use lib.Dec.{eqb}
 use lib.ListN.{length, take, drop, length-drop}
 use lib.Seq.{length-take-le}
 use borrow.Author.Tests.{eqb-true, not-false}
 use Rattle.xor.specs.Xor.{bytes-good}
 use Rattle.xor.proofs.Laws.{length-xors, word-zeros}
-use Rattle.grid.specs.Grid.{board}
-use Rattle.keys.specs.Keys.{key, key-refusal, head-in}
+use Rattle.grid.specs.Grid.{board, players-fit, value-fits}
+use Rattle.keys.specs.Keys.{key, key-refusal, head-in, opened, table, lent}
 use Rattle.keys.specs.Promise.{entry, Dealt-accepted, Accepted-is-drawn, held-in, Held-is-read}
 use Rattle.key_check.specs.Checked.{head-numbers, checked-as, key-checked}
-use Rattle.key_check.specs.declared.check.KeyCheck.{KeyCheck}
+use Rattle.key_header.specs.declared.KeyCheck.{KeyCheck}
 use Rattle.keys.proofs.Accepted.{passed}
 use Rattle.keys.proofs.Promise.{dealt-accepted, dealt-board, dealt-player, accepted-is-drawn, held-is-read}
-use Rattle.call_answers.specs.Answers.{lent, rule, Deal-says, Open-one-says, Open-all-says, joined-shares, shares-refusal, Join-says, Expand-says}
-use Rattle.join_keys_call.specs.JoinKeys.{Join-keys-says}
+use Rattle.call_answers.specs.Answers.{key-rule, Deal-says, Open-one-says, Open-all-says, joined-shares, shares-refusal, Join-says, Expand-says}
+use Rattle.seed_rows.specs.Rows.{rule}
+use Rattle.join_keys_call.specs.JoinKeys.{joined-table, Join-keys-says}
 use Rattle.promises.specs.Calls.{key-part, Deals-open, dealing-of, Deals-drawn, Accepted-opens, Opens-agree, Joins-agree}
 use Rattle.promises.specs.Calls.{Untouched, Refused-leaves, Answered-keeps}
 use Rattle.call_answers.proofs.Putting.{room-there, answer-is, put, untouched, take-front, part-front}
@@ -36,7 +37,7 @@ checked-of p i n m w key accepted board-is player-is answer says = says ∙ rw (
 -- THE THIRD DEMAND, OF THE CALLS
 
 pub deals-open : Deals-open
-unfolding Deals-open Dealt-accepted board lent
+unfolding Deals-open Dealt-accepted board
 deals-open p n m w point value long keys-now d =
     let b = board p n m w in
     let l = lent point value (d .arrays) (d .seeds) (d .words) in
@@ -53,9 +54,7 @@ deals-open p n m w point value long keys-now d =
           record {
             bytes = ap bytes-good part ∙ fine .2;
             checked = checked-of p i n m w (key-part (long .value) i keys-now) accepted board-is player-is;
-            accepted = accepted;
-            board-read = board-is;
-            player-read = player-is;
+            accepted = record { none = accepted; board-is = board-is; player-is = player-is };
           };
       opens = part-opens b l long (d .keys) keys-now t;
       joins = parts-join b l long (d .keys) keys-now t;
@@ -92,7 +91,7 @@ opens-agree key a one one-now all all-now good says-one says-all =
     let long = own-table-long key good accepted in
     let fits = entry-fits key good accepted a inside in
     let table-now : take (b .w) (drop (a * b .w) all-now) ≡ _ =
-    ap (λ (xs : List ℕ). take (b .w) (drop (a * b .w) xs)) (all-called .now) ∙ part-front (a * b .w) (b .w) _ all (omega arith) in
+    ap (λ (xs : List ℕ). take (b .w) (drop (a * b .w) xs)) (all-called .now) ∙ part-front (a * b .w) (b .w) (table (λ seed. key-rule key seed) key) all (omega arith) in
     ap (λ (xs : List ℕ). take (b .w) xs) (one-called .now) ∙ take-front (b .w) _ one (own-entry-long key good accepted a inside)
     ∙ own-entry key good accepted a inside ∙ sym table-now
 
@@ -123,8 +122,8 @@ refused-leaves =
 shares-fine : (p w long room : ℕ) → shares-refusal p w long room ≡ 0 → (long ≡ p * w) × (w ≤ room)
 unfolding shares-refusal
 shares-fine p w long room h =
-    let players = passed (not (leb 2 p && leb p 6)) 1 _ (λ t n. omega arith) h in
-    let width = passed (not (leb 1 w && leb w 16)) 4 _ (λ t n. omega arith) (players .1) in
+    let players = passed (not (players-fit p)) 1 _ (λ t n. omega arith) h in
+    let width = passed (not (value-fits w)) 4 _ (λ t n. omega arith) (players .1) in
     let whole = passed (not (eqb long (p * w))) 7 _ (λ t n. omega arith) (width .1) in
     (eqb-true long (p * w) (not-false (eqb long (p * w)) (whole .0)), room-there room w (whole .1))
 
@@ -145,10 +144,10 @@ answered-keeps =
           keys-past (board p n m w) (lent point value (d .arrays) (d .seeds) (d .words)) long (d .keys) keys-now (left p n m w point value long keys-now d);
       open-one = λ key a out out-now good h.
           let called = one-opened key a out out-now h in
-          past (head-in key .board .w) _ out out-now (own-entry-long key good (called .accepted) a (called .inside)) (called .room) (called .now);
+          past (head-in key .board .w) (opened (λ seed. key-rule key seed) key a) out out-now (own-entry-long key good (called .accepted) a (called .inside)) (called .room) (called .now);
       open-all = λ key out out-now good h.
           let called = all-opened key out out-now h in
-          past (head-in key .board .n * head-in key .board .w) _ out out-now (own-table-long key good (called .accepted)) (called .room) (called .now);
+          past (head-in key .board .n * head-in key .board .w) (table (λ seed. key-rule key seed) key) out out-now (own-table-long key good (called .accepted)) (called .room) (called .now);
       join-shares = λ p w shares out out-now h.
           let written = joined-shares p w shares in
           let none = sym (answer-is _ written 0 out out-now h) in
@@ -157,5 +156,5 @@ answered-keeps =
       join-keys = λ keys out out-now good h.
           let b = head-in keys .board in
           let t = joined-says keys out out-now h in
-          past (b .n * b .w) _ out out-now (joined-word keys out out-now b good t .long) (t .room) (t .now);
+          past (b .n * b .w) (joined-table (b .p) b keys) out out-now (joined-word keys out out-now b good t .long) (t .room) (t .now);
     }

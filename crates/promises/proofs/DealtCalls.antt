@@ -14,15 +14,17 @@ use Rattle.grid.specs.Grid.{Board, board, board-refusal, Dealing, share, joined
 use Rattle.grid.specs.Joining.{over}
 use Rattle.grid.proofs.Facts.{Board-in, board-accepted}
 use Rattle.grid.proofs.Sums.{over-same}
-use Rattle.keys.specs.Keys.{Lent, dealing, opened, key, keys-from, key-long, deal-refusal, table}
+use Rattle.keys.specs.Keys.{Lent, dealing, opened, key, keys-from, key-long, deal-refusal, table, or-else, lent}
 use Rattle.keys.specs.Promise.{lent-good, point-table, Dealt-accepted, Keys-open, Tables-join}
 use Rattle.keys.proofs.Dealing.{lent-in}
 use Rattle.keys.proofs.Promise.{dealt-accepted, dealt-board, dealt-word, keys-open, tables-join}
-use Rattle.call_answers.specs.Answers.{or-else, in-front, says, lent, rule, key-rule, Deal-says, Long-says, Open-one-says, Open-all-says, joined-shares, shares-refusal, Join-says}
+use Rattle.call_answers.specs.Answers.{says, key-rule, Deal-says, Long-says, Open-one-says, Open-all-says, joined-shares, shares-refusal, Join-says}
+use Rattle.writer.specs.Written.{in-front}
+use Rattle.seed_rows.specs.Rows.{rule}
 use Rattle.join_keys_call.specs.JoinKeys.{Join-keys-says}
 use Rattle.promises.specs.Calls.{Dealt, key-part, Past-kept}
 use Rattle.call_answers.specs.declared.Answer.{Answer}
-use Rattle.join_keys_call.proofs.InTurn.{neither}
+use Rattle.keys.proofs.Accepted.{neither}
 use Rattle.call_answers.proofs.Putting.{room-there, answer-is, put, take-front, drop-front, length-front}
 use Rattle.promises.proofs.OpenedKey.{opened-table, expansion, all-answered, one-opened, own-entry-long}
 use Rattle.promises.proofs.DealtKeys.{lent-accepted, keys-length, key-cut, tables-over, keys-joined}
@@ -45,7 +47,7 @@ pub record Left (b : Board) (l : Lent) (long : Answer) (out keys-now : List ℕ)
 
 pub left : (p n m w point : ℕ) (value : List ℕ) (long : Answer) (keys-now : List ℕ) (d : Dealt p n m w point value long keys-now) →
     Left (board p n m w) (lent point value (d .arrays) (d .seeds) (d .words)) long (d .keys) keys-now
-unfolding Deal-says Long-says says board lent
+unfolding Deal-says Long-says says board
 left p n m w point value long keys-now d =
     let b = board p n m w in
     let l = lent point value (d .arrays) (d .seeds) (d .words) in

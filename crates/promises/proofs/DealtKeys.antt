@@ -15,15 +15,15 @@ use Rattle.xor.proofs.Laws.{and-both}
 use Rattle.grid.specs.Grid.{Board, grid-rows, all-words}
 use Rattle.grid.specs.Joining.{over}
 use Rattle.grid.proofs.Facts.{Board-in, board-accepted}
-use Rattle.keys.specs.Keys.{Lent, Head, key, keys-from, key-long, deal-refusal, head-in, header, body-from, glued, dealing, marks-good, table}
+use Rattle.keys.specs.Keys.{Lent, Head, key, keys-from, key-long, deal-refusal, head-in, header, body-from, glued, dealing, marks-good, table, or-else, head-refusal}
 use Rattle.keys.specs.Promise.{lent-good, point-table, Keys-long, Keys-apart, Full-tables-join}
-use Rattle.keys.proofs.Accepted.{pass}
+use Rattle.keys.proofs.Accepted.{pass, numbers-none}
 use Rattle.keys.proofs.Dealing.{Lent-in, lent-in}
 use Rattle.keys.proofs.Numbers.{header-read-back}
 use Rattle.keys.proofs.Promise.{dealt-board, dealt-player, dealt-key, dealt-word, keys-long, keys-apart, full-tables-join}
-use Rattle.call_answers.specs.Answers.{or-else, in-front, rule}
-use Rattle.join_keys_call.specs.JoinKeys.{head-refusal, same-board, place-refusal, places-refusal, keys-refusal, joined-table, Join-keys-says}
-use Rattle.join_keys_call.proofs.InTurn.{numbers-none}
+use Rattle.writer.specs.Written.{in-front}
+use Rattle.seed_rows.specs.Rows.{rule}
+use Rattle.join_keys_call.specs.JoinKeys.{same-board, place-refusal, places-refusal, keys-refusal, joined-table, Join-keys-says}
 use Rattle.call_answers.proofs.Putting.{nothing-refuses, room-enough, answer-is, put, part-front}
 use Rattle.promises.proofs.OpenedKey.{expansion}
 

@@ -6,6 +6,7 @@ pub document-03 : Document-03
 document-03 =
     record {
       document-03-same-opening = Document03.same-opening;
+      document-03-same-refusals = Document03.same-refusals;
       document-03-tables-join = Document03.tables-join;
       document-03-keys-open = Document03.keys-open;
       document-03-opens-alone = Document03.opens-alone;

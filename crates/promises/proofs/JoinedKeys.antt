@@ -15,12 +15,14 @@ use Rattle.xor.proofs.Laws.{Word, good-take, good-drop}
 use Rattle.grid.specs.Grid.{Board}
 use Rattle.grid.specs.Joining.{over}
 use Rattle.grid.proofs.Sums.{over-same, over-word}
-use Rattle.keys.specs.Keys.{key-long, key-refusal, head-in, table}
-use Rattle.keys.proofs.Accepted.{passed}
-use Rattle.call_answers.specs.Answers.{in-front, rule, Open-all-says}
-use Rattle.join_keys_call.specs.JoinKeys.{head-refusal, places-refusal, keys-refusal, joined-table, Join-keys-says}
+use Rattle.keys.specs.Keys.{key-long, head-in, table, head-refusal, Accepted-as}
+use Rattle.keys.proofs.Accepted.{passed, neither}
+use Rattle.call_answers.specs.Answers.{Open-all-says}
+use Rattle.writer.specs.Written.{in-front}
+use Rattle.seed_rows.specs.Rows.{rule}
+use Rattle.join_keys_call.specs.JoinKeys.{places-refusal, keys-refusal, joined-table, Join-keys-says}
 use Rattle.promises.specs.Calls.{key-part}
-use Rattle.join_keys_call.proofs.InTurn.{neither, place-accepted, places-each}
+use Rattle.join_keys_call.proofs.InTurn.{place-accepted, places-each}
 use Rattle.call_answers.proofs.Putting.{room-there, answer-is, put, take-front}
 use Rattle.promises.proofs.OpenedKey.{named-table-word, opened-table}
 
@@ -58,21 +60,21 @@ module _ (bs out out-now : List ℕ) (b : Board) (good : bytes-good bs ≡ true)
   part i = key-part (key-long b) i bs
 
   -- its parts are accepted keys of one board, each its place's player's
-  pub part-fine : (i : ℕ) → i < b .p → (key-refusal (part i) ≡ 0) × (head-in (part i) .board ≡ b) × (head-in (part i) .player ≡ i)
+  pub part-fine : (i : ℕ) → i < b .p → Accepted-as b i (part i)
   unfolding key-part
   part-fine i h =
       let fits : suc i * key-long b ≤ b .p * key-long b = mul-le-mul-right (key-long b) h in
-      let fine =
-      place-accepted b (0 + i) (part i) (places-each (b .p) 0 b bs (t .places) i h)
-      (length-take-le (key-long b) (drop (i * key-long b) bs) (rw length-drop (omega (arith, t .whole)))) in
-      (fine .0, fine .1, fine .2 ∙ omega arith)
+      let here : 0 + i ≡ i = omega arith in
+      rw here at
+      (place-accepted b (0 + i) (part i) (places-each (b .p) 0 b bs (t .places) i h)
+      (length-take-le (key-long b) (drop (i * key-long b) bs) (rw length-drop (omega (arith, t .whole)))))
 
   part-good : (i : ℕ) → bytes-good (part i) ≡ true
   unfolding key-part
   part-good i = good-take (key-long b) (drop (i * key-long b) bs) (good-drop (i * key-long b) bs good)
 
   part-word : (i : ℕ) → i < b .p → Word (b .n * b .w) (table (λ seed. rule b seed) (part i))
-  part-word i h = named-table-word (part i) b (part-fine i h .1) (part-good i) (part-fine i h .0)
+  part-word i h = named-table-word (part i) b (part-fine i h .board-is) (part-good i) (part-fine i h .none)
 
   tables-from : (k i : ℕ) → joined-table k b (drop (i * key-long b) bs) ≡ over k i (b .n * b .w) (λ j. table (λ seed. rule b seed) (part j))
   unfolding joined-table over key-part
@@ -98,4 +100,4 @@ module _ (bs out out-now : List ℕ) (b : Board) (good : bytes-good bs ≡ true)
       ∙ over-same (b .p) 0 (b .n * b .w) (λ j. table (λ seed. rule b seed) (part j)) (λ i. take (b .n * b .w) (tables-now i))
       (λ i _ inside.
       let below : i < b .p = omega arith in
-      sym (opened-table (part i) b (part-fine i below .1) (part-good i) (tables i) (tables-now i) (says i below)))
+      sym (opened-table (part i) b (part-fine i below .board-is) (part-good i) (tables i) (tables-now i) (says i below)))

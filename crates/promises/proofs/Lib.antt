@@ -11,6 +11,6 @@ pub mod Demand3
 pub mod OfTheCalls
 pub mod RestsOn
 pub mod ChooseWidth
-pub mod MarkedDeals
+pub mod PrintedNumbers
 pub mod Document03
 pub mod Promise

@@ -13,17 +13,19 @@ use Rattle.xor.specs.Xor.{bytes-good}
 use Rattle.xor.proofs.Laws.{Word}
 use Rattle.chacha20.proofs.Stream.{word-expand}
 use Rattle.grid.specs.Grid.{Board, row-long}
-use Rattle.keys.specs.Keys.{key-refusal, head-in, table, opened}
+use Rattle.keys.specs.Keys.{key-refusal, head-in, table, opened, or-else}
 use Rattle.keys.specs.Promise.{Rule-good, entry, Table-long, Opens-alone}
 use Rattle.keys.proofs.Promise.{table-long, opens-alone}
-use Rattle.call_answers.specs.Answers.{or-else, in-front, rule, key-rule, Open-one-says, Open-all-says}
-use Rattle.join_keys_call.proofs.InTurn.{neither}
+use Rattle.call_answers.specs.Answers.{key-rule, Open-one-says, Open-all-says}
+use Rattle.writer.specs.Written.{in-front}
+use Rattle.seed_rows.specs.Rows.{rule}
+use Rattle.keys.proofs.Accepted.{neither}
 use Rattle.call_answers.proofs.Putting.{nothing-refuses, room-there, room-enough, square-there, square-in, answer-is, put, take-front}
 
 -- EXPANSION IS A ROW RULE
 
 pub expansion : (b : Board) → Rule-good b (λ seed. rule b seed)
-unfolding Rule-good rule
+unfolding Rule-good
 expansion b seed long good = let row = word-expand (row-long b) seed in (row .long, row .good)
 
 -- OPENING AN ACCEPTED KEY

@@ -8,7 +8,7 @@ use Rattle.promises.proofs.Demand3.{demand-3}
 use Rattle.promises.proofs.OfTheCalls.{of-the-calls}
 use Rattle.promises.proofs.RestsOn.{rests-on}
 use Rattle.promises.proofs.ChooseWidth.{choose-width}
-use Rattle.promises.proofs.MarkedDeals.{marked-deals}
+use Rattle.promises.proofs.PrintedNumbers.{printed-numbers}
 use Rattle.promises.proofs.Document03.{document-03}
 
 pub promises : Promises
@@ -20,6 +20,6 @@ promises =
       of-the-calls = of-the-calls;
       rests-on = rests-on;
       choose-width = choose-width;
-      marked-deals = marked-deals;
+      printed-numbers = printed-numbers;
       document-03 = document-03;
     }

@@ -11,11 +11,13 @@ use lib.ListN.{length, take, drop}
 use Rattle.xor.specs.Xor.{zeros, bytes-good}
 use Rattle.grid.specs.Grid.{Board, board, Dealing, dealing-good, held}
 use Rattle.grid.specs.Joining.{over}
-use Rattle.keys.specs.Keys.{dealing, key-refusal, head-in, key-long}
+use Rattle.keys.specs.Keys.{lent, dealing, key-refusal, head-in, key-long, Accepted-as}
 use Rattle.key_check.specs.Checked.{checked-as, key-checked}
-use Rattle.key_check.specs.declared.check.KeyCheck.{KeyCheck}
+use Rattle.key_header.specs.declared.KeyCheck.{KeyCheck}
 use Rattle.keys.specs.Promise.{entry, point-table, held-in}
-use Rattle.call_answers.specs.Answers.{lent, rule, Deal-says, Long-says, Open-one-says, Open-all-says, Join-says, Expand-says, in-front}
+use Rattle.call_answers.specs.Answers.{Deal-says, Long-says, Open-one-says, Open-all-says, Join-says, Expand-says}
+use Rattle.seed_rows.specs.Rows.{rule}
+use Rattle.writer.specs.Written.{in-front}
 use Rattle.join_keys_call.specs.JoinKeys.{Join-keys-says}
 use Rattle.call_answers.specs.declared.Answer.{Answer}
 
@@ -36,20 +38,18 @@ unfoldable pub key-part : (K i : ℕ) → (keys : List ℕ) → List ℕ
 key-part K i keys = take K (drop (i * K) keys)
 
 -- bytes that Check key accepts: whatever it answers as its contract says, that is 0 and the header numbers p, i, N, μ and w
-pub record Accepted-as (p i n m w : ℕ) (key : List ℕ) : Type 0 where
+pub record Accepted-by-check (p i n m w : ℕ) (key : List ℕ) : Type 0 where
   pub bytes : bytes-good key ≡ true
   pub checked : (answer : KeyCheck) → checked-as answer ≡ key-checked key →
       checked-as answer ≡ record { refusal = 0; numbers = p ∷ i ∷ n ∷ m ∷ w ∷ [] }
-  pub accepted : key-refusal key ≡ 0
-  pub board-read : head-in key .board ≡ board p n m w
-  pub player-read : head-in key .player ≡ i
+  pub accepted : Accepted-as (board p n m w) i key
 
 -- WHAT ITS KEYS ARE GOOD FOR
 pub record Keys-good (p n m w point : ℕ) (value : List ℕ) (long : Answer) (keys-now : List ℕ) : Type 0 where
   -- Key length answers 0 too
   pub length-given : long .refusal ≡ 0
   -- each part is accepted by Check key, and is the key of its place
-  pub accepted : (i : ℕ) → i < p → Accepted-as p i n m w (key-part (long .value) i keys-now)
+  pub accepted : (i : ℕ) → i < p → Accepted-by-check p i n m w (key-part (long .value) i keys-now)
   -- "each key given to Open all", "where 9 doesn't refuse", is answered by 0
   pub opens : (i r : ℕ) (out out-now : List ℕ) → i < p → n * w ≤ length out → Open-all-says (key-part (long .value) i keys-now) r out out-now → r ≡ 0
   -- and the p tables that these calls leave XOR to the table with the value on the point and zeros on every other square
@@ -104,9 +104,7 @@ Opens-agree =
 -- JOIN KEYS IS OPEN ALL AND XOR: any slice that it answers by 0 is p accepted keys of one board, each its place's player's, and what it
 -- writes is the XOR of the tables that Open all leaves of each
 pub record Joined-as-opened (keys out-now : List ℕ) (b : Board) : Type 0 where
-  pub accepted : (i : ℕ) → i < b .p →
-      (key-refusal (key-part (key-long b) i keys) ≡ 0) × (head-in (key-part (key-long b) i keys) .board ≡ b)
-      × (head-in (key-part (key-long b) i keys) .player ≡ i)
+  pub accepted : (i : ℕ) → i < b .p → Accepted-as b i (key-part (key-long b) i keys)
   pub joins : (tables tables-now : ℕ → List ℕ) → ((i : ℕ) → i < b .p → Open-all-says (key-part (key-long b) i keys) 0 (tables i) (tables-now i)) →
       take (b .n * b .w) out-now ≡ over (b .p) 0 (b .n * b .w) (λ i. take (b .n * b .w) (tables-now i))
 

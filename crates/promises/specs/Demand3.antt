@@ -5,7 +5,7 @@ unfoldable pub use Rattle.grid.specs.Hiding.{Tells-nothing, Just-one-dealing, N
 unfoldable pub use Rattle.grid.specs.Moving.{Moved-is-named, Moving-finds}
 unfoldable pub use Rattle.keys.specs.Promise.{Rule-good, Table-long, Opens-alone, Keys-open, Tables-join, Full-tables-join}
 unfoldable pub use Rattle.keys.specs.Promise.{Accepted-is-drawn, Held-is-read, Same-keys, Same-keys-for-others, Keys-tell-nothing}
-use Rattle.call_answers.specs.Answers.{rule}
+use Rattle.seed_rows.specs.Rows.{rule}
 
 -- "A row rule gives each 32-byte seed some μ × w bytes; expansion is one"
 unfoldable pub Expansion-is-a-rule : Type 0

@@ -8,7 +8,7 @@ pub use Rattle.promises.specs.Demand3.{Demand-3}
 pub use Rattle.promises.specs.OfTheCalls.{Of-the-calls}
 pub use Rattle.promises.specs.RestsOn.{Rests-on}
 pub use Rattle.promises.specs.ChooseWidth.{Choose-width}
-pub use Rattle.promises.specs.MarkedDeals.{Marked-deals}
+pub use Rattle.promises.specs.PrintedNumbers.{Printed-numbers}
 pub use Rattle.promises.specs.Document03.{Document-03}
 
 pub record Promises : Type 0 where
@@ -23,6 +23,6 @@ pub record Promises : Type 0 where
   -- arrays and words
   pub rests-on : Rests-on
   pub choose-width : Choose-width
-  pub marked-deals : Marked-deals
+  pub printed-numbers : Printed-numbers
   -- document 03's own statements
   pub document-03 : Document-03

@@ -1,9 +1,14 @@
--- The rows of seeds that stand one after another, XORed. Assumes nothing: these are definitions.
+-- The rule that expansion is, and the rows of seeds that stand one after another, XORed. Assumes nothing: these are definitions.
 use mathlib.Core.List.{List}
 use Prim.Native.Nat.{ℕ, zero, suc}
 use lib.ListN.{take, drop}
 use Rattle.xor.specs.Xor.{xors, zeros}
 use Rattle.chacha20.specs.Expand.{expand}
+use Rattle.grid.specs.Grid.{Board, row-long}
+
+-- "A row rule gives each 32-byte seed some μ × w bytes; expansion is one": "a row is the first μ × w bytes of the key stream"
+abbrev pub rule : Board → List ℕ → List ℕ
+rule b seed = expand (row-long b) seed
 
 -- the XOR of the rows of n bytes that the first `left` seeds, of 32 bytes each, expand to
 unfoldable pub rows-joined : (left n : ℕ) → (seeds : List ℕ) → List ℕ

@@ -1,6 +1,7 @@
 // Rows from seeds that stand one after another: `xor_rows` XORs them into an output, which is what opening does over a player's held seeds of a
 // grid row, and dealing over all seeds of the point's grid row. Rows of at most a block are made of four seeds side by side; the others, and
 // those of the seeds left over, one by one. Assumes nothing.
+use grid::board::SEED_BYTES;
 use seed_row::BLOCK_BYTES;
 use seed_row::xor_front;
 use seed_row::xor_row;
@@ -9,9 +10,6 @@ ghost use Prim.Native.Nat.{_*_, _/_, _≤_};
 ghost use lib.ListN.{length};
 ghost use Rattle.xor.specs.Xor.{xors};
 ghost use Rattle.seed_rows.specs.Rows.{rows-joined};
-
-// Bytes of a seed.
-const SEED_BYTES: usize = 32;
 
 // XORs the rows of four seeds into `out`, which has at most a block's length. `made` is room for their blocks.
 fn xor_four(seeds: &[u8], made: &mut [u8], out: &mut [u8])

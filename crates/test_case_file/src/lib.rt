@@ -4,8 +4,8 @@ ghost use mathlib.Core.Path.{_≡_};
 ghost use Prim.Native.Nat.{_+_, _*_, _≤_};
 ghost use lib.ListN.{take, drop};
 ghost use Rattle.test_case_file.specs.File.{number-in, number-at};
-use key_header::byte;
-use key_header::part_from;
+use reader::byte;
+use reader::part_from;
 
 // The file's first part, and what stands where in it behind a name of 8 bytes.
 pub const FILE_HEAD_BYTES: usize = 24;

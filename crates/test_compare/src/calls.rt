@@ -17,8 +17,8 @@ use crate::operations::KEY_LENGTH;
 use crate::operations::OPEN_ALL;
 use crate::operations::OPEN_ONE;
 use crate::operations::SENSOR_POSITION;
-use key_header::byte;
 use nosingginger::KeyCheck;
+use reader::byte;
 use test_answers::Answered;
 use test_answers::alone;
 use test_answers::answer;
@@ -74,10 +74,11 @@ fn deal(head: &[u8], inputs: &[u8], lent: &mut [u8]) -> Answered {
 }
 
 fn check_key(inputs: &[u8]) -> Answered {
-    let header = match nosingginger::check_key(inputs) {
+    let heading = match nosingginger::check_key(inputs) {
         KeyCheck::Refused(refusal) => return alone(refusal),
-        KeyCheck::Accepted(header) => header,
+        KeyCheck::Accepted(heading) => heading,
     };
+    let header = heading.header;
     let board = header.board;
     Answered {
         refusal: 0,

@@ -2,8 +2,8 @@
 ghost use Prim.Native.Nat.{_≤_, _+_, _<_};
 ghost use mathlib.Core.Path.{_≡_};
 use crate::calls::equal;
-use key_header::byte;
 use libc::STDOUT_FILENO;
+use reader::byte;
 use test_case_file::FILE_HEAD_BYTES;
 use test_case_file::HEAD_BYTES;
 use test_case_file::OPERATION;

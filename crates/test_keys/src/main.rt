@@ -4,11 +4,11 @@
 // A line for each byte: its place, and what each value there gives, by runs of values (the byte's own value is no change).
 // Then a line for each grid row and column, also those that do not exist: where the held seed stands in the unchanged key, 0 for none.
 use io::print_decimal;
-use key_check::check::KeyCheck;
 use key_check::check::check_key;
 use key_check::held::held_seed_place;
+use key_header::KeyCheck;
 use libc::STDOUT_FILENO;
-ghost use Prim.Native.Nat.{_<_, _≤_};
+ghost use Prim.Native.Nat.{_<_};
 
 fn text(words: &[u8]) {
     io::write_all(STDOUT_FILENO, words);

@@ -5,8 +5,8 @@ ghost use mathlib.Core.Path.{_≡_};
 ghost use Prim.Native.Nat.{_≤_};
 ghost use lib.ListN.{length};
 use grid::board::Board;
-use key_header::Number;
-use key_header::Reader;
+use key_header::numbers::Number;
+use key_header::numbers::Reader;
 use libc::STDOUT_FILENO;
 use nosingginger::Answer;
 

@@ -17,17 +17,18 @@ use Rattle.grid.specs.Grid.{Board, board, board-refusal}
 use Rattle.grid.specs.Joining.{over}
 use Rattle.grid.proofs.Facts.{board-in}
 use Rattle.grid.proofs.Sums.{over-last, over-same}
-use Rattle.keys.specs.Keys.{Lent, header, key, key-refusal, head-in, table, deal-refusal, key-long, keys-from}
+use Rattle.keys.specs.Keys.{Lent, header, key, key-refusal, head-in, table, deal-refusal, key-long, keys-from, or-else, lent}
 use Rattle.keys.specs.Promise.{point-table}
-use Rattle.keys.proofs.Accepted.{passed, refusing}
+use Rattle.keys.proofs.Accepted.{passed, refusing, first-fits, next-fits, neither}
 use Rattle.keys.proofs.Dealing.{lent-in}
 use Rattle.keys.proofs.Numbers.{one-group}
-use Rattle.call_answers.specs.Answers.{or-else, in-front, Put-says, lent, rule, key-rule, Deal-says, Long-says, Open-one-says, Open-all-says}
+use Rattle.call_answers.specs.Answers.{Put-says, key-rule, Deal-says, Long-says, Open-one-says, Open-all-says}
+use Rattle.seed_rows.specs.Rows.{rule}
+use Rattle.writer.proofs.Laws.{in-front-part}
 use Rattle.promises.specs.Calls.{Dealt, key-part, Keys-good, Deals-open, Opens-agree, Past-kept}
 use Rattle.call_answers.specs.declared.Answer.{Answer}
 use Rattle.witness.specs.Witness.{piece-refusal, Shows-the-piece, Both-ways, keys-lent, table-of, Opens-each, tables-joined, last-table}
-use Rattle.call_answers.proofs.Answering.{put-number, put-refused, put-done, first-fits, next-fits, in-front-part}
-use Rattle.join_keys_call.proofs.InTurn.{neither}
+use Rattle.call_answers.proofs.Answering.{put-number, put-refused, put-done}
 use Rattle.call_answers.proofs.Putting.{answer-is, untouched}
 use Rattle.promises.proofs.OpenedKey.{all-answered, all-opened, one-opened, own-table-long}
 use Rattle.promises.proofs.DealtKeys.{tables-over}
@@ -93,7 +94,7 @@ module _ (K players size player : ℕ) (keys : List ℕ) (good : bytes-good keys
   -- the table that Open all leaves of the next key, where it just fits
   next-table : (r : ℕ) (out out-now : List ℕ) → length out ≡ size → Open-all-says (key-part K player keys) r out out-now →
       (out-now ≡ table-of K keys player) × (length out-now ≡ size)
-  unfolding key-part in-front
+  unfolding key-part
   next-table r out out-now long says =
       let key = key-part K player keys in
       let accepted = each .1 player more .0 in
@@ -259,7 +260,7 @@ module _ {p n m w point : ℕ} {value arrays seeds words keys tables joined : Li
             keys-fit,
             λ i inside.
                 let key = promised .accepted i inside in
-                (key .accepted, ap (λ (b : Board). b .n * b .w) (key .board-read) ∙ sym t),
+                (key .accepted .none, ap (λ (b : Board). b .n * b .w) (key .accepted .board-is) ∙ sym t),
           ),
           j ∙ sym t,
         )
@@ -273,11 +274,11 @@ module _ {p n m w point : ℕ} {value arrays seeds words keys tables joined : Li
         unfolding key-rule board
         own-table i inside =
             let k = key-part (long .value) i keys-now in
-            ap (λ (b : Board). table (λ seed. rule b seed) k) (promised .accepted i inside .board-read)
+            ap (λ (b : Board). table (λ seed. rule b seed) k) (promised .accepted i inside .accepted .board-is)
             ∙ ap (λ (ks : List ℕ). table (λ seed. rule on seed) ks) (part-is on l long keys keys-now dealt-keys i inside)
 
         joined-tables : tables-joined p (long .value) (n * w) keys-now ≡ point-table on point value
-        unfolding tables-joined board lent
+        unfolding tables-joined board
         joined-tables =
             over-same p 0 (n * w) (λ i. table-of (long .value) keys-now i) (λ i. own i) (λ i _ inside. own-table i (omega arith))
             ∙ tables-over on l (dealt-keys .accepted)
@@ -290,7 +291,7 @@ module _ {p n m w point : ℕ} {value arrays seeds words keys tables joined : Li
         pub piece-shown : (table-long : ℕ) (back front : List ℕ) → table-long ≡ n * w → length back ≡ n * w → length front ≡ n * w →
             front ≡ tables-joined p (long .value) table-long keys-now → back ≡ last-table p (long .value) keys-now (take (n * w) tables) →
             Shows-the-piece on l keys tables joined 0 keys-now (back ++ drop (n * w) tables) (front ++ drop (n * w) joined)
-        unfolding board lent
+        unfolding board
         piece-shown table-long back front sized back-long front-long joins leaves =
             let players = lent-in on l (dealt-keys .accepted) .board .players-least in
             let piece = joins ∙ ap (λ (k : ℕ). tables-joined p (long .value) k keys-now) sized ∙ joined-tables in

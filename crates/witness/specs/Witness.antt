@@ -8,9 +8,10 @@ use lib.Dec.{ltb}
 use lib.ListN.{length, take}
 use Rattle.grid.specs.Grid.{Board}
 use Rattle.grid.specs.Joining.{over}
-use Rattle.keys.specs.Keys.{Lent, deal-refusal, key, keys-from, key-long, key-refusal, head-in, table}
+use Rattle.keys.specs.Keys.{Lent, deal-refusal, key, keys-from, key-long, key-refusal, head-in, table, or-else}
 use Rattle.keys.specs.Promise.{entry, point-table}
-use Rattle.call_answers.specs.Answers.{or-else, rule, key-rule, Put-says, Open-one-says}
+use Rattle.call_answers.specs.Answers.{key-rule, Put-says, Open-one-says}
+use Rattle.seed_rows.specs.Rows.{rule}
 use Rattle.promises.specs.Calls.{key-part}
 
 -- of a board, what Deal is lent for it, and three outputs as they were

@@ -12,7 +12,7 @@ use xor::xor_into;
 ghost use mathlib.Core.Path.{_≡_};
 ghost use lib.ListN.{length};
 ghost use Rattle.grid.specs.Grid.{board};
-ghost use Rattle.call_answers.specs.Answers.{lent};
+ghost use Rattle.keys.specs.Keys.{lent};
 ghost use Rattle.witness.specs.Witness.{Shows-the-piece, Both-ways};
 ghost use Rattle.witness.specs.Witness.{keys-lent, Opens-each, tables-joined, last-table};
 

@@ -1,13 +1,13 @@
 -- The laws of writing one part behind another. Assumes nothing.
 use mathlib.Core.Path.{_≡_, refl, sym, ap, _∙_, subst}
 use mathlib.Core.List.{List, [], _∷_, _++_, append-assoc, append-nil}
-use Prim.Native.Nat.{ℕ, zero, suc, _+_, _-_, _<_, _≤_}
+use Prim.Native.Nat.{ℕ, suc, _+_, _-_, _<_, _≤_}
 use native.Mathlib.Omega.{arith}
 use native.Mathlib.Nat.{add-zero, zero-add, add-assoc}
 use native.Mathlib.Numerals.{add-one}
 use lib.ListN.{length, getD, take, drop, set, length-append, length-drop, take-append-drop, List·getD-append}
-use lib.Seq.{length-take-le, take-length, take-at, drop-at, drop-drop, paste, paste-zero, paste-suc, length-paste, drop-append-le, take-append-le, take-take, take-add, getD-take, set-split, append-snoc}
-use Rattle.writer.specs.Written.{written, Wrote}
+use lib.Seq.{length-take-le, take-length, take-at, drop-at, drop-drop, drop-length, paste, paste-suc, take-append-le, take-take, take-add, getD-take, set-split, append-snoc}
+use Rattle.writer.specs.Written.{written, in-front, Wrote}
 
 -- writing nothing changes nothing
 pub written-nothing : (at : ℕ) (old : List ℕ) → written at [] old ≡ old
@@ -110,3 +110,11 @@ before-is-old at i place new old out within before so-far =
 pub put-one : (at byte : ℕ) (old : List ℕ) → at < length old → set old at byte ≡ written at (byte ∷ []) old
 unfolding written
 put-one at byte old within = rw add-one (set-split old at byte within ∙ sym (append-snoc (take at old) byte (drop (suc at) old)))
+
+-- IN FRONT: the bytes named fill the output
+pub in-front-whole : (new old : List ℕ) → length new ≡ length old → in-front new old ≡ new
+in-front-whole new old e = rw (e, drop-length old, append-nil)
+
+-- or its first part
+pub in-front-part : (new last old : List ℕ) (k : ℕ) → length last ≡ k → last ≡ new → last ++ drop k old ≡ in-front new old
+in-front-part new last old k l e = rw (← e, l)

@@ -1,6 +1,6 @@
 -- The laws of XOR, once for all widths and lengths: of two numbers bit by bit, then of two byte strings place by place, and how the
 -- latter goes with take, drop and ++. A `Word n` is a string of exactly n bytes. Assumes nothing.
-use mathlib.Core.Path.{_≡_, refl, sym, ap, _∙_, subst}
+use mathlib.Core.Path.{_≡_, refl, sym, ap, _∙_}
 use mathlib.Core.Bool.{Bool, true, false, _&&_, false≢true}
 use mathlib.Core.List.{List, [], _∷_, _++_}
 use Prim.Native.Nat.{ℕ, zero, suc, _+_, _*_, _-_, _/_, _%_, _^_, _<_, _≤_}

@@ -1,4 +1,4 @@
--- `blocks::copy_front` meets its contract. The loop's invariant: the first i bytes are copied, the rest is as it was lent. Assumes nothing.
+-- `chacha20_blocks::copy_front` meets its contract. The loop's invariant: the first i bytes are copied, the rest is as it was lent. Assumes nothing.
 use mathlib.Core.Path.{_≡_, refl, _∙_}
 use mathlib.Core.List.{List, _++_, append-nil}
 use Prim.Native.Nat.{ℕ, _≤_, _-_}

@@ -1,4 +1,4 @@
--- `blocks::short_block` meets its contract. A whole block is made, and its first bytes copied. Assumes nothing.
+-- `chacha20_blocks::short_block` meets its contract. A whole block is made, and its first bytes copied. Assumes nothing.
 use borrow.Author.Needs.{needs}
 use mathlib.Core.Path.{ap, _∙_}
 use mathlib.Core.List.{List}

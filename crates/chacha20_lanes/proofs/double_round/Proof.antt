@@ -1,4 +1,4 @@
--- `lanes::double_round` meets its contract. Eight lines at the table's places. Assumes nothing.
+-- `chacha20_lanes::double_round` meets its contract. Eight lines at the table's places. Assumes nothing.
 use borrow.Author.Needs.{needs}
 use native.Mathlib.Omega.{arith}
 use Rattle.chacha20.proofs.Together.{eight-lines}

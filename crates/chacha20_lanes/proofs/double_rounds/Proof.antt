@@ -1,4 +1,4 @@
--- `lanes::double_rounds` meets its contract. The loop's invariant: the lanes before l are a double round on, the others are as they were. Assumes nothing.
+-- `chacha20_lanes::double_rounds` meets its contract. The loop's invariant: the lanes before l are a double round on, the others are as they were. Assumes nothing.
 use borrow.Author.Needs.{needs}
 use mathlib.Core.Path.{sym, _∙_, ap}
 use mathlib.Core.List.{List}

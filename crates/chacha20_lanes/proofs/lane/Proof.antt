@@ -1,4 +1,4 @@
--- `lanes::lane` meets its contract. The loop's invariant: the words before w are taken. Assumes nothing.
+-- `chacha20_lanes::lane` meets its contract. The loop's invariant: the words before w are taken. Assumes nothing.
 use mathlib.Core.Path.{_≡_, refl}
 use Prim.Native.Nat.{ℕ, _≤_, _<_, _+_, _*_, _-_}
 use native.Mathlib.Omega.{arith}

@@ -1,4 +1,4 @@
--- `lanes::put_lane` meets its contract. The loop's invariant: the words before w are put, and the other lanes are as they were. Assumes nothing.
+-- `chacha20_lanes::put_lane` meets its contract. The loop's invariant: the words before w are put, and the other lanes are as they were. Assumes nothing.
 use mathlib.Core.Path.{sym, _∙_}
 use Prim.Native.Nat.{_≤_, _-_}
 use native.Mathlib.Omega.{arith}

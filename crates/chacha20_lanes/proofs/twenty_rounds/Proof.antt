@@ -1,4 +1,4 @@
--- `lanes::twenty_rounds` meets its contract. The loop's invariant: the double rounds that are left lead each lane to its end. Assumes nothing.
+-- `chacha20_lanes::twenty_rounds` meets its contract. The loop's invariant: the double rounds that are left lead each lane to its end. Assumes nothing.
 use mathlib.Core.Path.{refl, sym, _∙_}
 use Prim.Native.Nat.{_≤_, _-_}
 use native.Mathlib.Omega.{arith}

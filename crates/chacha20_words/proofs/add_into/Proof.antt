@@ -1,4 +1,4 @@
--- `state_words::add_into` meets its contract. The loop's invariant: the first i places hold the sums, the rest is as it was lent. Assumes nothing.
+-- `chacha20_words::add_into` meets its contract. The loop's invariant: the first i places hold the sums, the rest is as it was lent. Assumes nothing.
 use mathlib.Core.Path.{_≡_, refl, sym, _∙_}
 use mathlib.Core.List.{List, _++_, append-nil}
 use Prim.Native.Nat.{ℕ, _≤_, _<_, _+_, _-_, _%_, _^_}

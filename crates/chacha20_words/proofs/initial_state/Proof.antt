@@ -1,4 +1,4 @@
--- `state_words::initial_state` meets its contract. Word by word as the definition has it. Assumes nothing.
+-- `chacha20_words::initial_state` meets its contract. Word by word as the definition has it. Assumes nothing.
 use borrow.Author.Needs.{needs}
 use mathlib.Core.List.{[], _∷_}
 use Rattle.chacha20.specs.Expand.{key-words}

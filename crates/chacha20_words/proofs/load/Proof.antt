@@ -1,4 +1,4 @@
--- `state_words::load` meets its contract. Four bytes from a place on. Assumes nothing.
+-- `chacha20_words::load` meets its contract. Four bytes from a place on. Assumes nothing.
 use borrow.Author.Needs.{needs}
 use Rattle.chacha20_words.proofs.Bytes.{word-of-four}
 use mathlib.Core.Path.{_∙_}

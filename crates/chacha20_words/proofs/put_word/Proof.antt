@@ -1,4 +1,4 @@
--- `state_words::put_word` meets its contract. Four bytes are written into four places. Assumes nothing.
+-- `chacha20_words::put_word` meets its contract. Four bytes are written into four places. Assumes nothing.
 use borrow.Author.Needs.{needs}
 use Rattle.chacha20_words.proofs.Bytes.{word-written}
 use denote.Ref.{now}

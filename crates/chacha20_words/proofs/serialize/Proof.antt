@@ -1,4 +1,4 @@
--- `state_words::serialize` meets its contract. The loop's invariant: the first i words are written, the rest is as it was lent. Assumes nothing.
+-- `chacha20_words::serialize` meets its contract. The loop's invariant: the first i words are written, the rest is as it was lent. Assumes nothing.
 use mathlib.Core.Path.{_≡_, refl, _∙_}
 use mathlib.Core.List.{[], _++_}
 use Prim.Native.Nat.{_≤_, _+_, _-_, _*_}

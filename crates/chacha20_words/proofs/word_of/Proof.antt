@@ -1,4 +1,4 @@
--- `state_words::word_of` meets its contract. The sum is the definition's. Assumes nothing.
+-- `chacha20_words::word_of` meets its contract. The sum is the definition's. Assumes nothing.
 use borrow.Author.Needs.{needs}
 use mathlib.Core.Path.{refl}
 use Rattle.chacha20.specs.Expand.{word-at, at}

@@ -2,7 +2,6 @@
 use mathlib.Core.Path.{sym, _∙_}
 use native.Mathlib.Omega.{arith}
 use Rattle.grid.specs.Grid.{board}
-use Rattle.call_answers.specs.Answers.{lent}
 use Rattle.deal_call.proofs.Lending.{deal-fine, deal-refused, deal-room-refused, dealt}
 use Rattle.call_answers.proofs.Sizes.{keys-short, room-for}
 use borrow.Author.Needs.{needs}
@@ -31,7 +30,6 @@ returns-2 c =
     (c .before .key-length .ensures) (omega (arith, c .if2 .taken))
 
 deal-keys-requires : tie.Need-deal-keys-requires
-unfolding lent
 deal-keys-requires c κs =
     let room = c .before in
     let e = room .before .before in

@@ -3,7 +3,6 @@ use mathlib.Core.Path.{_≡_, sym, _∙_}
 use native.Mathlib.Omega.{arith}
 use Rattle.grid.specs.Grid.{board, board-refusal}
 use Rattle.grid.specs.Code.{board-of}
-use Rattle.call_answers.specs.Answers.{lent}
 use Rattle.deal_call.proofs.Lending.{deal-board, deal-point, deal-lent, arrays-fit, deal-arrays, deal-none}
 use borrow.Author.Needs.{needs}
 use Rattle.deal_call.proofs.deal_refusal.Statement.{statement}
@@ -19,14 +18,14 @@ returns : tie.Need-returns
 returns c = deal-board _ _ _ (c .before .refusal .ensures) (c .if1 .taken)
 
 returns-2 : tie.Need-returns-2
-unfolding board lent
+unfolding board
 returns-2 c = deal-point _ _ (fine (c .before .before)) (omega (arith, c .if2 .taken))
 
 lent-fits-requires : tie.Need-lent-fits-requires
 lent-fits-requires c κs = fine (c .before .before)
 
 returns-3 : tie.Need-returns-3
-unfolding board lent
+unfolding board
 returns-3 c =
     let point = c .before .before in
     deal-lent _ _ (fine (point .before .before)) (omega (arith, point .if2 .left)) _ (c .before .lent-fits .ensures) (c .if3 .taken)
@@ -37,7 +36,7 @@ arrays-good-requires c κs =
     (fine (point .before .before), arrays-fit _ _ _ _ _ (c .before .lent-fits .ensures) (c .if3 .left))
 
 returns-4 : tie.Need-returns-4
-unfolding board lent
+unfolding board
 returns-4 c =
     let fits = c .before .before in
     let point = fits .before .before in
@@ -45,7 +44,7 @@ returns-4 c =
     (c .before .arrays-good .ensures) (c .if4 .taken)
 
 returns-5 : tie.Need-returns-5
-unfolding board lent
+unfolding board
 returns-5 c =
     let fits = c .before .before in
     let point = fits .before .before in

@@ -1,4 +1,4 @@
--- `held_rows::put_four` meets its contract: a byte of marks, and four columns' seeds behind it. The loop's invariant: the seeds held of the columns
+-- `deal_grid_rows::put_four` meets its contract: a byte of marks, and four columns' seeds behind it. The loop's invariant: the seeds held of the columns
 -- before this one are written behind the byte. Assumes nothing.
 use mathlib.Core.Path.{_≡_, refl, _∙_, subst}
 use Prim.Native.Nat.{ℕ, _+_, _-_, _≤_}

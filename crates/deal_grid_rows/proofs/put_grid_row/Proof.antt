@@ -1,4 +1,4 @@
--- `held_rows::put_grid_row` meets its contract: four columns at once, or marks, and held seeds behind them. Assumes nothing.
+-- `deal_grid_rows::put_grid_row` meets its contract: four columns at once, or marks, and held seeds behind them. Assumes nothing.
 use mathlib.Core.Path.{_≡_, sym, subst}
 use Prim.Native.Nat.{ℕ, _+_, _≤_}
 use native.Mathlib.Omega.{arith}

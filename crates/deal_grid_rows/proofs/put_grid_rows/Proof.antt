@@ -1,4 +1,4 @@
--- `held_rows::put_grid_rows` meets its contract. The loop's invariant: the grid rows before this one are written. Assumes nothing.
+-- `deal_grid_rows::put_grid_rows` meets its contract. The loop's invariant: the grid rows before this one are written. Assumes nothing.
 use mathlib.Core.Path.{_≡_, refl, ap, _∙_, subst}
 use Prim.Native.Nat.{ℕ, _+_, _*_, _-_, _≤_, _<_}
 use native.Mathlib.Omega.{arith}

@@ -1,4 +1,4 @@
--- `held_rows::put_held` meets its contract. The loop's invariant: the seeds held of the columns before this one are written. Assumes nothing.
+-- `deal_grid_rows::put_held` meets its contract. The loop's invariant: the seeds held of the columns before this one are written. Assumes nothing.
 use mathlib.Core.Path.{_≡_, refl, _∙_, subst}
 use mathlib.Core.List.{List}
 use Prim.Native.Nat.{ℕ, _-_, _≤_}

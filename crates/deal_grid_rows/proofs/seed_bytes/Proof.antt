@@ -1,4 +1,4 @@
--- `held_rows::seed_bytes` meets its contract: what is written over 32 zeros is all there is. Assumes nothing.
+-- `deal_grid_rows::seed_bytes` meets its contract: what is written over 32 zeros is all there is. Assumes nothing.
 use mathlib.Core.Path.{_≡_, _∙_}
 use mathlib.Core.List.{List, append-nil}
 use Prim.Native.Nat.{ℕ}

@@ -1,4 +1,4 @@
--- `dealing::deal_keys` meets its contract. The loop's invariant: behind player 0's key stand those of the players before this one. Assumes nothing.
+-- `deal_keys::deal_keys` meets its contract. The loop's invariant: behind player 0's key stand those of the players before this one. Assumes nothing.
 use mathlib.Core.Path.{_≡_, refl, _∙_}
 use Prim.Native.Nat.{_-_, _≤_}
 use native.Mathlib.Omega.{arith}
@@ -7,11 +7,10 @@ use denote.Ref.{now}
 use Rattle.grid.specs.Grid.{board, row-long}
 use Rattle.grid.specs.Code.{board-of}
 use Rattle.grid.proofs.Facts.{board-in}
-use Rattle.keys.specs.Keys.{Lent, keys-from}
+use Rattle.keys.specs.Keys.{Lent, keys-from, lent}
 use Rattle.writer.specs.Written.{Wrote}
 use Rattle.writer.proofs.Laws.{wrote-nothing}
-use Rattle.deal_last_word.specs.LastWord.{rule}
-use Rattle.deal_keys.specs.Dealt.{lent}
+use Rattle.seed_rows.specs.Rows.{rule}
 use Rattle.deal_keys.proofs.Lending.{Lent-fits, lent-fits}
 use Rattle.deal_keys.proofs.KeyBytes.{Begun, front-room, word-room, next-front-room, again-room, turn, all-written}
 use Rattle.deal_keys.proofs.deal_keys.Statement.{statement}

@@ -1,19 +1,19 @@
--- `dealing::put_front` meets its contract: header, grid rows, and the lent words, one behind the other. Assumes nothing.
+-- `deal_keys::put_front` meets its contract: header, grid rows, and the lent words, one behind the other. Assumes nothing.
 use Prim.Native.Nat.{_+_, _≤_}
 use native.Mathlib.Omega.{arith}
 use lib.ListN.{length}
 use denote.Ref.{now}
-use Rattle.grid.specs.Grid.{board, grid-rows}
+use Rattle.grid.specs.Grid.{grid-rows}
 use Rattle.grid.specs.Code.{board-of}
-use Rattle.grid.proofs.Facts.{board-in}
 use Rattle.keys.specs.Keys.{header, body-from}
+use Rattle.key_header.specs.Answers.{header-written}
 use borrow.Author.Needs.{needs}
 use Rattle.deal_keys.proofs.KeyBytes.{front-parts, front-wrote}
 use Rattle.deal_keys.proofs.put_front.Statement.{statement}
 use Rattle.deal_keys.proofs.put_front.Tie as tie
 use Rattle.deal_keys.proofs.put_front.Reads as reads
 use Rattle.deal_keys.proofs.put_front.Lts as lts
-use Rattle.deal_keys.proofs.header.put_header.Reads as put-header-reads
+use Rattle.key_header.proofs.put_header.Reads as put-header-reads
 use Rattle.deal_grid_rows.proofs.put_grid_rows.Reads as put-grid-rows-reads
 use Rattle.writer.proofs.put.Reads as put-reads
 
@@ -25,26 +25,19 @@ long s =
     omega (arith, s .pre .4, front-parts (board-of (a .board)) (a .player) (now (a .arrays)) (now (a .seeds)) (now (a .words)))
 
 put-header-requires : tie.Need-put-header-requires
-unfolding board
+unfolding header-written
 put-header-requires c κs =
-    let s = c .before .before .before .before .before in
-    let b = board-of (s .args .board) in
-    let f = board-in b (s .pre .0) in (
-      omega (arith, f .players-most),
-      omega (arith, s .pre .1),
-      omega (arith, f .positions-most),
-      omega (arith, f .wide-most),
-      omega (arith, f .value-most),
-      omega (arith, long s),
-    )
+    let s = c .before .before .before .before .before in (s .pre .0, omega (arith, s .pre .1), omega (arith, long s))
 
 put-grid-rows-requires : tie.Need-put-grid-rows-requires
+unfolding header-written
 put-grid-rows-requires c κs =
     let s = c .before .before .before .before .before .before .before .before .before in
     let p = c .before .before .before .put-header in
     (s .pre .0, s .pre .1, s .pre .2, s .pre .3, omega (arith, long s, p .ensures .next-is, p .kept .0))
 
 put-requires : tie.Need-put-requires
+unfolding header-written
 put-requires c κs =
     let s = c .before .before .before .before .before .before .before .before .before .before .before .before .before in
     let p = c .before .before .before .before .before .before .before .put-header in
@@ -55,6 +48,7 @@ same-length : tie.Need-same-length
 same-length c = search needs
 
 returns : tie.Need-returns
+unfolding header-written
 returns c =
     let s = c .before .before .before .before .before .before .before .before .before .before .before .before .before .before .before .before in
     let a = s .args in

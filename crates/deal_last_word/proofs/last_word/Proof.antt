@@ -1,4 +1,4 @@
--- `last_word::last_word` meets its contract: piece, words, rows. Assumes nothing.
+-- `deal_last_word::last_word` meets its contract: piece, words, rows. Assumes nothing.
 use mathlib.Core.Path.{_≡_, refl, _∙_}
 use Prim.Native.Nat.{ℕ, _+_, _*_, _-_, _/_, _%_, _≤_}
 use native.Mathlib.Omega.{arith}

@@ -1,4 +1,4 @@
--- `last_word::put_last_word` meets its contract: the last word is made in its place. Assumes nothing.
+-- `deal_last_word::put_last_word` meets its contract: the last word is made in its place. Assumes nothing.
 use mathlib.Core.Path.{_≡_, sym}
 use mathlib.Core.List.{List, append-assoc}
 use Prim.Native.Nat.{ℕ, _+_, _-_}
@@ -11,7 +11,8 @@ use Rattle.grid.proofs.Facts.{board-in}
 use Rattle.writer.specs.Written.{Wrote, written}
 use borrow.Rule.Slice.PartMut.{putMid, post-is}
 use borrow.Author.Needs.{needs}
-use Rattle.deal_last_word.specs.LastWord.{rule, dealt-word}
+use Rattle.deal_last_word.specs.LastWord.{dealt-word}
+use Rattle.seed_rows.specs.Rows.{rule}
 use Rattle.deal_last_word.proofs.LastWord.{dealt-word-long}
 use Rattle.deal_last_word.proofs.put_last_word.Statement.{statement}
 use Rattle.deal_last_word.proofs.put_last_word.Tie as tie

@@ -1,4 +1,4 @@
--- `last_word::put_piece` meets its contract. Assumes nothing.
+-- `deal_last_word::put_piece` meets its contract. Assumes nothing.
 use native.Mathlib.Omega.{arith}
 use lib.ListN.{length}
 use denote.Ref.{now}

@@ -1,4 +1,4 @@
--- `last_word::xor_words` meets its contract. The loop's invariant: the words before this one are XORed in. Assumes nothing.
+-- `deal_last_word::xor_words` meets its contract. The loop's invariant: the words before this one are XORed in. Assumes nothing.
 use mathlib.Core.Path.{_≡_, refl, sym, _∙_, subst}
 use Prim.Native.Nat.{ℕ, _+_, _*_, _-_, _≤_}
 use native.Mathlib.Omega.{arith}

@@ -1,4 +1,4 @@
--- `marks::few_marks` meets its contract. The loop goes down from the last mark; its invariant: the byte packs the marks from the place on.
+-- `deal_marks::few_marks` meets its contract. The loop goes down from the last mark; its invariant: the byte packs the marks from the place on.
 -- Assumes nothing.
 use mathlib.Core.Path.{_≡_, refl, _∙_}
 use mathlib.Core.Bool.{Bool, true, false, cond}

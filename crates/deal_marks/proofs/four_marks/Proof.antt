@@ -1,4 +1,4 @@
--- `marks::four_marks` meets its contract. Assumes nothing.
+-- `deal_marks::four_marks` meets its contract. Assumes nothing.
 use denote.Ref.{now}
 use Rattle.deal_marks.proofs.Spread.{four-packed}
 use borrow.Author.Needs.{needs}

@@ -1,4 +1,4 @@
--- `marks::mark_byte` meets its contract. Assumes nothing.
+-- `deal_marks::mark_byte` meets its contract. Assumes nothing.
 use native.Mathlib.Omega.{arith}
 use denote.Ref.{now}
 use Rattle.deal_marks.proofs.PackedMarks.{packed-small, eight-packed, last-four}

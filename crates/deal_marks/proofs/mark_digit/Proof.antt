@@ -1,4 +1,4 @@
--- `marks::mark_digit` meets its contract. Assumes nothing.
+-- `deal_marks::mark_digit` meets its contract. Assumes nothing.
 use mathlib.Core.Path.{sym, ap, _∙_}
 use Prim.Native.Nat.{ℕ}
 use native.Mathlib.Omega.{arith}

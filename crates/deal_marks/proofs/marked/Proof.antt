@@ -1,4 +1,4 @@
--- `marks::marked` meets its contract. Assumes nothing.
+-- `deal_marks::marked` meets its contract. Assumes nothing.
 use mathlib.Core.Path.{refl}
 use Rattle.grid.specs.Grid.{bit}
 use borrow.Author.Needs.{needs}

@@ -1,4 +1,4 @@
--- `marks::put_marks` meets its contract. The loop's invariant: the first bytes of marks are written. Assumes nothing.
+-- `deal_marks::put_marks` meets its contract. The loop's invariant: the first bytes of marks are written. Assumes nothing.
 use mathlib.Core.Path.{_≡_, refl, _∙_, subst}
 use Prim.Native.Nat.{ℕ, _-_, _≤_}
 use native.Mathlib.Omega.{arith}

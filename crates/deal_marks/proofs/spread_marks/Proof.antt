@@ -1,4 +1,4 @@
--- `marks::spread_marks` meets its contract. Assumes nothing.
+-- `deal_marks::spread_marks` meets its contract. Assumes nothing.
 use native.Mathlib.Omega.{arith}
 use Rattle.deal_marks.proofs.Spread.{spread-made}
 use borrow.Author.Needs.{needs}

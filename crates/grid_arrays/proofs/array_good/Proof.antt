@@ -1,4 +1,4 @@
--- `array_check::array_good` meets its contract. The loop's invariant: whether the columns so far were free and the others will be is
+-- `grid_arrays::array_good` meets its contract. The loop's invariant: whether the columns so far were free and the others will be is
 -- whether all columns were at the start. The measure is what is left of the array.
 -- Assumes nothing.
 use mathlib.Core.Path.{_≡_, refl, _∙_}

@@ -1,8 +1,8 @@
--- `array_check::arrays_good` meets its contract. The loop's invariant: the arrays from the present grid row on are good or not, as all
+-- `grid_arrays::arrays_good` meets its contract. The loop's invariant: the arrays from the present grid row on are good or not, as all
 -- are. The measure is the grid rows left.
 -- Assumes nothing.
-use mathlib.Core.Path.{_≡_, refl, sym, _∙_, subst, ap}
-use Prim.Native.Nat.{ℕ, _+_, _*_, _-_, _≤_, _<_}
+use mathlib.Core.Path.{_≡_, _∙_}
+use Prim.Native.Nat.{_+_, _*_, _-_, _≤_}
 use native.Mathlib.Nat.{div-le-self}
 use native.Mathlib.Omega.{arith}
 use borrow.Author.Needs.{needs}

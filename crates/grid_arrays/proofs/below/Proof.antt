@@ -1,4 +1,4 @@
--- `array_check::below` meets its contract: it takes the rest by the limit's power of two, or all where the limit is past the number's width.
+-- `grid_arrays::below` meets its contract: it takes the rest by the limit's power of two, or all where the limit is past the number's width.
 -- Assumes nothing.
 use mathlib.Core.Path.{subst⁻¹}
 use Prim.Native.Nat.{ℕ, _<_}

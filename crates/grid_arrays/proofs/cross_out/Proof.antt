@@ -1,4 +1,4 @@
--- `array_check::cross_out` meets its contract: the shifted one is a power of two, and an XOR with it turns its bit round.
+-- `grid_arrays::cross_out` meets its contract: the shifted one is a power of two, and an XOR with it turns its bit round.
 -- Assumes nothing.
 use borrow.Author.Needs.{needs}
 use Rattle.grid.proofs.Powers.{shifted-one}

@@ -1,4 +1,4 @@
--- `array_check::fitting` meets its contract: the limit is the power of two, and the constants are the columns of either parity.
+-- `grid_arrays::fitting` meets its contract: the limit is the power of two, and the constants are the columns of either parity.
 -- Assumes nothing.
 use mathlib.Core.Bool.{true, false}
 use Prim.Native.Nat.{_≤_, _<_}

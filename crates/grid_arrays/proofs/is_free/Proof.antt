@@ -1,4 +1,4 @@
--- `array_check::is_free` meets its contract. Assumes nothing.
+-- `grid_arrays::is_free` meets its contract. Assumes nothing.
 use borrow.Author.Needs.{needs}
 use Rattle.grid_arrays.proofs.Checking.{bit-read}
 use Rattle.grid_arrays.proofs.is_free.Statement.{statement}

@@ -1,4 +1,4 @@
--- `join_calls::join_shares` meets its contract. Assumes nothing.
+-- `join_keys_call::join_shares` meets its contract. Assumes nothing.
 use mathlib.Core.Path.{_≡_, refl, sym, ap, _∙_}
 use Prim.Native.Nat.{ℕ, _*_, _≤_}
 use lib.ListN.{length}
@@ -6,7 +6,8 @@ use lib.Seq.{length-front, length-take-le}
 use denote.Ref.{now}
 use borrow.Author.Needs.{needs}
 use Rattle.call_answers.specs.Answers.{joined-shares, Join-says}
-use Rattle.call_answers.proofs.Answering.{put-refused, put-done, in-front-part}
+use Rattle.call_answers.proofs.Answering.{put-refused, put-done}
+use Rattle.writer.proofs.Laws.{in-front-part}
 use Rattle.join_shares_call.proofs.Joining.{shares-fit}
 use Rattle.join_shares_call.proofs.join_shares.Statement.{statement}
 use Rattle.join_shares_call.proofs.join_shares.Tie as tie

@@ -1,4 +1,4 @@
--- `join_calls::shares::joined` meets its contract. The loop's invariant: the shares from place `end` on are joined. Assumes nothing.
+-- `join_keys_call::shares::joined` meets its contract. The loop's invariant: the shares from place `end` on are joined. Assumes nothing.
 use mathlib.Core.Path.{_≡_, refl, sym, ap, _∙_}
 use Prim.Native.Nat.{ℕ, _*_, _-_, _≤_, _<_}
 use native.Mathlib.Omega.{arith}

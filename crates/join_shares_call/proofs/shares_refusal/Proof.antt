@@ -1,4 +1,4 @@
--- `join_calls::shares::shares_refusal` meets its contract: each answer is a link of the chain. Assumes nothing.
+-- `join_keys_call::shares::shares_refusal` meets its contract: each answer is a link of the chain. Assumes nothing.
 use native.Mathlib.Nat.{mul-le-mul}
 use native.Mathlib.Omega.{arith}
 use Rattle.grid.proofs.Refusing.{In, in-range, passed, failed}
@@ -9,22 +9,22 @@ use Rattle.join_shares_call.proofs.shares_refusal.Tie as tie
 
 -- what each test has shown where it was passed
 players-in : (c : tie.Else1) → In 2 (c .before .before .args .players) 6
-players-in c = passed (c .before .within .ensures) (c .if1 .left)
+players-in c = passed (c .before .players-fit .ensures) (c .if1 .left)
 
 bytes-in : (c : tie.Else2) → In 1 (c .before .before .before .before .args .value-bytes) 16
-bytes-in c = passed (c .before .within2 .ensures) (c .if2 .left)
+bytes-in c = passed (c .before .value-bytes-fit .ensures) (c .if2 .left)
 
-within-requires : tie.Need-within-requires
-within-requires c κs = search needs
+players-fit-requires : tie.Need-players-fit-requires
+players-fit-requires c κs = search needs
 
 returns : tie.Need-returns
-returns c = shares-1 _ _ _ _ (failed (c .before .within .ensures) (c .if1 .taken))
+returns c = shares-1 _ _ _ _ (failed (c .before .players-fit .ensures) (c .if1 .taken))
 
-within-requires-2 : tie.Need-within-requires-2
-within-requires-2 c κs = search needs
+value-bytes-fit-requires : tie.Need-value-bytes-fit-requires
+value-bytes-fit-requires c κs = search needs
 
 returns-2 : tie.Need-returns-2
-returns-2 c = shares-4 _ _ _ _ (players-in (c .before .before)) (failed (c .before .within2 .ensures) (c .if2 .taken))
+returns-2 c = shares-4 _ _ _ _ (players-in (c .before .before)) (failed (c .before .value-bytes-fit .ensures) (c .if2 .taken))
 
 mul-if3 : tie.Need-mul-if3
 mul-if3 c =
@@ -46,9 +46,9 @@ pub shares-refusal-spec : {M : Type 1} → statement M
 shares-refusal-spec =
     tie.close
     (tie.spec
-    within-requires
+    players-fit-requires
     returns
-    within-requires-2
+    value-bytes-fit-requires
     returns-2
     mul-if3
     returns-3

@@ -1,4 +1,4 @@
--- `key_rows::grid_row_fits` meets its contract: both counts are those of the definition. Assumes nothing.
+-- `key_marks::grid_row_fits` meets its contract: both counts are those of the definition. Assumes nothing.
 use native.Mathlib.Omega.{arith}
 use Rattle.grid.specs.Code.{board-of}
 use Rattle.key_lengths.proofs.Lengths.{mark-bytes-in}

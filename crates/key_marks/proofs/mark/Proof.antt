@@ -1,4 +1,4 @@
--- `key_rows::mark` meets its contract: a shift to the right divides by a power of two. Assumes nothing.
+-- `key_marks::mark` meets its contract: a shift to the right divides by a power of two. Assumes nothing.
 use mathlib.Core.Path.{ap}
 use Prim.Native.Nat.{ℕ, _%_}
 use Rattle.grid.specs.Grid.{bit}

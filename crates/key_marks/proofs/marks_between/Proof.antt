@@ -1,4 +1,4 @@
--- `key_rows::marks_between` meets its contract. The invariant: what is counted and what is left make the whole count.
+-- `key_marks::marks_between` meets its contract. The invariant: what is counted and what is left make the whole count.
 -- The measure is the columns left. Assumes nothing.
 use mathlib.Core.Path.{_≡_, sym, _∙_}
 use mathlib.Core.Bool.{true, false}

@@ -1,4 +1,4 @@
--- `key_rows::marks_good` meets its contract. The invariant: the grid rows left to see decide what all of them do. The measure
+-- `key_marks::marks_good` meets its contract. The invariant: the grid rows left to see decide what all of them do. The measure
 -- is how many they are. Assumes nothing.
 use mathlib.Core.Path.{_≡_}
 use native.Mathlib.Omega.{arith}

@@ -1,4 +1,4 @@
--- `key_rows::seed_from` meets its contract. Assumes nothing.
+-- `key_marks::seed_from` meets its contract. Assumes nothing.
 use native.Mathlib.Nat.{sub-zero}
 use native.Mathlib.Omega.{arith}
 use Rattle.keys.specs.Held.{seed-from}

@@ -15,23 +15,23 @@ first-refused p n r number value out = width-refused-1 p n r out number value
 
 returns : tie.Need-returns
 returns c =
-    first-refused _ _ _ (c .refused .ensures .0) (c .refused .ensures .1) (failed (c .before .before .within .ensures) (c .before .if1 .taken))
+    first-refused _ _ _ (c .refused .ensures .0) (c .refused .ensures .1) (failed (c .before .before .players-fit .ensures) (c .before .if1 .taken))
 
 -- what each test has shown where it was passed
 players-in : (c : tie.Else1) → In 2 (c .before .before .args .players) 6
-players-in c = passed (c .before .within .ensures) (c .if1 .left)
+players-in c = passed (c .before .players-fit .ensures) (c .if1 .left)
 
 positions-in : (c : tie.Else2) → In 1 (c .before .before .before .before .args .positions) 65536
-positions-in c = passed (c .before .within2 .ensures) (c .if2 .left)
+positions-in c = passed (c .before .positions-fit .ensures) (c .if2 .left)
 
-within-requires : tie.Need-within-requires
-within-requires c κs = search needs
+players-fit-requires : tie.Need-players-fit-requires
+players-fit-requires c κs = search needs
 
 refused-requires : tie.Need-refused-requires
 refused-requires c κs = search needs
 
-within-requires-2 : tie.Need-within-requires-2
-within-requires-2 c κs = search needs
+positions-fit-requires : tie.Need-positions-fit-requires
+positions-fit-requires c κs = search needs
 
 refused-requires-2 : tie.Need-refused-requires-2
 refused-requires-2 c κs = search needs
@@ -39,7 +39,7 @@ refused-requires-2 c κs = search needs
 returns-2 : tie.Need-returns-2
 returns-2 c =
     let a = c .before in
-    width-refused-2 _ _ _ (players-in (a .before .before)) (failed (a .before .within2 .ensures) (a .if2 .taken)) (c .refused2 .ensures .0) (c .refused2 .ensures .1)
+    width-refused-2 _ _ _ (players-in (a .before .before)) (failed (a .before .positions-fit .ensures) (a .if2 .taken)) (c .refused2 .ensures .0) (c .refused2 .ensures .1)
 
 choose-width-requires : tie.Need-choose-width-requires
 choose-width-requires c κs =
@@ -58,10 +58,10 @@ pub choose-width-spec : {M : Type 1} → statement M
 choose-width-spec =
     tie.close
     (tie.spec
-    within-requires
+    players-fit-requires
     refused-requires
     returns
-    within-requires-2
+    positions-fit-requires
     refused-requires-2
     returns-2
     choose-width-requires

@@ -1,4 +1,4 @@
--- `row_shares::add_grid_row_words` meets its contract. Assumes nothing.
+-- `open_grid_row::add_grid_row_words` meets its contract. Assumes nothing.
 use mathlib.Core.Path.{_≡_, ap, _∙_}
 use Prim.Native.Nat.{ℕ, _*_, _-_}
 use native.Mathlib.Omega.{arith}

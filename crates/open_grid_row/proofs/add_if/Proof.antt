@@ -1,4 +1,4 @@
--- `row_shares::add_if` meets its contract. Assumes nothing.
+-- `open_grid_row::add_if` meets its contract. Assumes nothing.
 use mathlib.Core.Path.{_≡_}
 use mathlib.Core.Bool.{Bool, true, cond}
 use mathlib.Core.List.{List}

@@ -1,4 +1,4 @@
--- `row_shares::add_part` meets its contract: rows and words, one after the other, are the shares. Assumes nothing.
+-- `open_grid_row::add_part` meets its contract: rows and words, one after the other, are the shares. Assumes nothing.
 use Prim.Native.Nat.{_≤_}
 use native.Mathlib.Omega.{arith}
 use lib.ListN.{length}

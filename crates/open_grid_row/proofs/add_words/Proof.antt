@@ -1,4 +1,4 @@
--- `row_shares::add_words` meets its contract. The loop's invariant: what is in `out`, with the words of the marked columns that are left, is all of them
+-- `open_grid_row::add_words` meets its contract. The loop's invariant: what is in `out`, with the words of the marked columns that are left, is all of them
 -- XORed into what was. Assumes nothing.
 use mathlib.Core.Path.{_≡_, refl, sym, _∙_}
 use mathlib.Core.Bool.{true}

@@ -1,4 +1,4 @@
--- `row_shares::grid_row_seeds` meets its contract. Assumes nothing.
+-- `open_grid_row::grid_row_seeds` meets its contract. Assumes nothing.
 use Prim.Native.Nat.{_+_, _*_, _/_, _≤_}
 use native.Mathlib.Omega.{arith}
 use lib.ListN.{length}

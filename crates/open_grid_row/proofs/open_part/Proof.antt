@@ -1,4 +1,4 @@
--- `row_shares::open_part` meets its contract: the rows' stretch and the words, one after the other, are the shares. Assumes nothing.
+-- `open_grid_row::open_part` meets its contract: the rows' stretch and the words, one after the other, are the shares. Assumes nothing.
 use mathlib.Core.Path.{_≡_, sym, ap, _∙_}
 use Prim.Native.Nat.{_+_, _≤_}
 use native.Mathlib.Omega.{arith}

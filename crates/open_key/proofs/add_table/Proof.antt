@@ -1,4 +1,4 @@
--- `opening::add_table` meets its contract. The loop's invariant: the table of the grid rows that are done is XORed into what stands in front, and
+-- `open_key::add_table` meets its contract. The loop's invariant: the table of the grid rows that are done is XORed into what stands in front, and
 -- all behind it is as it was lent. Assumes nothing.
 use mathlib.Core.Path.{_≡_, refl, sym, ap, _∙_}
 use mathlib.Core.List.{List}
@@ -8,43 +8,38 @@ use lib.ListN.{length}
 use denote.Ref.{now}
 use borrow.Author.Needs.{needs}
 use borrow.Rule.Slice.PartMut.{same-len-mid}
-use Rattle.xor.specs.Xor.{xors}
-use Rattle.chacha20.specs.Expand.{expand}
+use Rattle.seed_rows.specs.Rows.{rule}
 use Rattle.xor.proofs.Laws.{good-by-entries}
-use Rattle.grid.specs.Grid.{Board, board, board-refusal, grid-rows, row-long}
+use Rattle.grid.specs.Grid.{Board, board, grid-rows, row-long}
 use Rattle.grid.specs.Code.{board-of}
-use Rattle.grid.proofs.Facts.{Board-in, grid-rows-pos}
-use Rattle.keys.specs.Keys.{head-in}
-use Rattle.keys.proofs.Accepted.{Body-in}
-use Rattle.open_key.proofs.Bodies.{key-board, key-board-accepted, key-body, table-is}
+use Rattle.grid.proofs.Facts.{Board-in, board-in, grid-rows-pos}
+use Rattle.keys.proofs.Accepted.{Body-in, body-good}
+use Rattle.open_key.specs.Opened.{table-of}
 use Rattle.writer.proofs.Cuts.{part-long, part-whole}
 use Rattle.open_key.proofs.GridRows.{row-in-table, part-length, part-marks, count-is, expansion, Added, nothing-added, row-added, all-added}
 use Rattle.open_key.proofs.add_table.Statement.{statement}
 use Rattle.open_key.proofs.add_table.Tie as tie
 
 abbrev Inv-loop : tie.InvT-loop
-Inv-loop key header out₀ board grid-rows row-bytes grid-row₀ out grid-row =
-    let b = board-of (header .board) in
-    (grid-row ≤ grid-rows) × (length out ≡ length out₀) × Added b (expand (row-long b)) (head-in key .rest) out₀ out grid-row
+Inv-loop body board out₀ grid-rows row-bytes grid-row₀ out grid-row =
+    let b = board-of board in
+    (grid-row ≤ grid-rows) × (length out ≡ length out₀) × Added b (rule b) body out₀ out grid-row
 
 abbrev μ-loop : tie.MeasureT-loop
-μ-loop key header out₀ board grid-rows row-bytes grid-row₀ out grid-row = grid-rows - grid-row
+μ-loop body board out₀ grid-rows row-bytes grid-row₀ out grid-row = grid-rows - grid-row
 
 -- the function's entry, from the place before the loop, and what is known there
 abbrev entry : tie.After-row-length Inv-loop μ-loop → tie.Start Inv-loop μ-loop
-entry c = c .before .before .before .before .before
+entry c = c .before .before .before .before
 
 abbrev its-board : tie.Start Inv-loop μ-loop → Board
-its-board c = board-of (c .args .header .board)
+its-board c = board-of (c .args .board)
 
 abbrev body : tie.Start Inv-loop μ-loop → List ℕ
-body c = head-in (now (c .args .key)) .rest
+body c = now (c .args .body)
 
 board-known : (c : tie.Start Inv-loop μ-loop) → Board-in (its-board c)
-board-known c = key-board (now (c .args .key)) (its-board c) (c .pre .0 .accepted) (c .pre .0 .board-is)
-
-accepted : (c : tie.Start Inv-loop μ-loop) → board-refusal (its-board c) ≡ 0
-accepted c = key-board-accepted (now (c .args .key)) (its-board c) (c .pre .0 .accepted) (c .pre .0 .board-is)
+board-known c = board-in _ (c .pre .0 .board)
 
 out-long : (c : tie.Start Inv-loop μ-loop) → length (now (c .args .out)) ≡ its-board c .n * its-board c .w
 unfolding board
@@ -53,18 +48,17 @@ out-long c = c .pre .1
 body-known : (c : tie.After-row-length Inv-loop μ-loop) → Body-in (its-board (entry c)) (body (entry c))
 body-known c =
     let s = entry c in
-    let ks = now (s .args .key) in
-    key-body ks (its-board s) (s .pre .0 .accepted) (s .pre .0 .board-is) (good-by-entries ks (λ i within. c .before .before .before .before .shared-slice-known .given i .fits))
+    body-good _ _ (s .pre .0) (good-by-entries _ (λ i within. c .before .before .before .shared-slice-known .given i .fits))
 
 -- behind the loop every grid row is done, so the whole table is added
 returns : tie.Need-returns Inv-loop μ-loop
+unfolding table-of
 returns c =
     let m = c .before .before in
     let s = entry m in
     let l = c .before .loop in
     all-added (its-board s) _ (body s) (now (s .args .out)) (l .out) (l .grid-row) (board-known s) (out-long s) (l .inv .2)
     (omega (arith, c .loop-test .left, l .inv .0, m .before .grid-rows .ensures))
-    ∙ ap (λ (t : List ℕ). xors (now (s .args .out)) t) (table-is (now (s .args .key)) (its-board s) (s .pre .0 .accepted) (s .pre .0 .board-is) _)
 
 -- in a turn: the grid row exists, where it begins in the body and in the table, and how many bytes the table has of it
 inside : (c : tie.In-loop Inv-loop μ-loop) → c .before .loop .grid-row < grid-rows (its-board (entry (c .before .before)))
@@ -103,7 +97,7 @@ loop-again c =
     let count = part-long at size in (
       omega (arith, inside (n .before), m .before .grid-rows .ensures),
       same-len-mid at (at + size - at) (l .out) new (done .add-part .kept .1 .1 .1 .0) ∙ l .inv .1,
-      row-added b (expand (row-long b)) (body s) (board-known s) (expansion b) (body-known m) (l .grid-row) (inside (n .before))
+      row-added b (rule b) (body s) (board-known s) (expansion b) (body-known m) (l .grid-row) (inside (n .before))
           (now (s .args .out)) (l .out) _ new at (at + size - at) _ (at-is (n .before))
           (count ∙ count-is b (board-known s) (l .grid-row) (inside (n .before)) _ _ size (m .row-length .ensures) (l .inv .1 ∙ out-long s) (n .least .ensures))
           (l .inv .2)
@@ -111,10 +105,10 @@ loop-again c =
     )
 
 grid-rows-requires : tie.Need-grid-rows-requires Inv-loop μ-loop
-grid-rows-requires c κs = accepted (c .before .before .before)
+grid-rows-requires c κs = c .before .before .pre .0 .board
 
 row-length-requires : tie.Need-row-length-requires Inv-loop μ-loop
-row-length-requires c κs = accepted (c .before .before .before .before)
+row-length-requires c κs = c .before .before .before .pre .0 .board
 
 loop-holds : tie.Need-loop-holds Inv-loop μ-loop
 loop-holds c = (omega arith, refl, nothing-added _ _ _ _)
@@ -133,7 +127,7 @@ add-end c = omega (arith, end-within c)
 
 grid-row-part-requires : tie.Need-grid-row-part-requires Inv-loop μ-loop
 grid-row-part-requires c κs =
-    let s = entry (c .before .before .before) in (s .pre .0, omega (arith, inside (c .before)))
+    let s = entry (c .before .before .before) in (s .pre .0 .board, omega (arith, inside (c .before)))
 
 sub-add-part : tie.Need-sub-add-part Inv-loop μ-loop
 sub-add-part c = omega arith
@@ -154,7 +148,7 @@ add-part-requires c κs =
     let b = its-board s in
     let bs = body s in
     let room = part-whole _ (n .least .result) (l .out) (end-within n) in (
-      accepted s,
+      s .pre .0 .board,
       omega (arith, inside (n .before)),
       part-length b bs (body-known m) _ (omega (arith, inside (n .before))) _ (p .grid-row-part .ensures),
       part-marks b bs (body-known m) _ (omega (arith, inside (n .before))) _ (p .grid-row-part .ensures),

@@ -1,15 +1,13 @@
--- `opening::fill_table` meets its contract. Assumes nothing.
-use mathlib.Core.Path.{sym, ap, _∙_}
-use mathlib.Core.List.{List}
-use Prim.Native.Nat.{ℕ}
+-- `open_key::fill_table` meets its contract. Assumes nothing.
 use denote.Ref.{now}
 use borrow.Author.Needs.{needs}
-use Rattle.xor.specs.Xor.{xors, zeros}
+use Rattle.xor.specs.Xor.{zeros}
 use Rattle.xor.proofs.Laws.{good-by-entries}
 use Rattle.grid.specs.Grid.{board}
 use Rattle.grid.specs.Code.{board-of}
-use Rattle.keys.specs.Keys.{head-in}
-use Rattle.open_key.proofs.Bodies.{key-board, key-body, table-is}
+use Rattle.grid.proofs.Facts.{board-in}
+use Rattle.keys.proofs.Accepted.{body-good}
+use Rattle.open_key.specs.Opened.{table-of}
 use Rattle.open_key.proofs.GridRows.{expansion, table-fresh}
 use Rattle.open_key.proofs.fill_table.Statement.{statement}
 use Rattle.open_key.proofs.fill_table.Tie as tie
@@ -24,19 +22,15 @@ same-length : tie.Need-same-length
 same-length c = search needs
 
 returns : tie.Need-returns
-unfolding board zeros
+unfolding board zeros table-of
 returns c =
     let added = c .before .before in
     let cleared = added .before .before .before .before in
     let known = cleared .before .before .before in
     let s = known .before in
-    let ks = now (s .args .key) in
-    let b = board-of (s .args .header .board) in
-    let is = table-is ks b (s .pre .0 .accepted) (s .pre .0 .board-is) _ in
-    table-fresh b _ (head-in ks .rest) (now (s .args .out)) (cleared .clear .last .0) _ (key-board ks b (s .pre .0 .accepted) (s .pre .0 .board-is)) (expansion b)
-    (key-body ks b (s .pre .0 .accepted) (s .pre .0 .board-is) (good-by-entries ks (λ i within. known .shared-slice-known .given i .fits))) (s .pre .1)
-    (cleared .clear .ensures) (added .add-table .ensures ∙ ap (λ (t : List ℕ). xors (cleared .clear .last .0) t) (sym is))
-    ∙ is
+    let b = board-of (s .args .board) in
+    table-fresh b _ (now (s .args .body)) (now (s .args .out)) (cleared .clear .last .0) _ (board-in b (s .pre .0 .board)) (expansion b)
+    (body-good b _ (s .pre .0) (good-by-entries _ (λ i within. known .shared-slice-known .given i .fits))) (s .pre .1) (cleared .clear .ensures) (added .add-table .ensures)
 
 pub fill-table-spec : {M : Type 1} → statement M
 fill-table-spec =

@@ -1,4 +1,4 @@
--- `dealing_program::asked_refusal` meets its contract. Assumes nothing.
+-- `program_deal::asked_refusal` meets its contract. Assumes nothing.
 use mathlib.Core.Path.{sym, _∙_}
 use native.Mathlib.Omega.{arith}
 use Rattle.grid.specs.Grid.{board}

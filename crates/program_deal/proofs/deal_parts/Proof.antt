@@ -1,34 +1,45 @@
--- `dealing_program::deal_parts` meets its contract: the parts are cut one behind another. Assumes nothing.
-use mathlib.Core.Path.{refl, sym}
-use Prim.Native.Nat.{_-_}
+-- `program_deal::deal_parts` meets its contract: the parts are cut one behind another. Assumes nothing.
+use mathlib.Core.Path.{sym, ap}
+use Prim.Native.Nat.{ℕ, _+_, _-_, _≤_}
 use native.Mathlib.Omega.{arith}
+use lib.ListN.{length}
 use lib.Seq.{length-take-le}
 use denote.Ref.{now}
-use Rattle.grid.specs.Grid.{board}
+use Rattle.grid.specs.Grid.{board, arrays-long, seeds-long}
 use Rattle.grid.specs.Code.{board-of}
+use Rattle.grid.proofs.Facts.{board-in}
+use Rattle.grid.proofs.Sizes.{arrays-most}
 use Rattle.program_deal.proofs.Dealings.{parts-within, deal-cut}
 use borrow.Author.Needs.{needs}
 use Rattle.program_deal.proofs.deal_parts.Statement.{statement}
 use Rattle.program_deal.proofs.deal_parts.Tie as tie
 
-all-columns-requires : tie.Need-all-columns-requires
-all-columns-requires c κs = search needs
+-- the parts stand inside, and their lengths are small
+within : (s : tie.Start) → let b = s .args .board in b .«value_bytes» + arrays-long (board-of b) + seeds-long (board-of b) ≤ length (now (s .args .rest))
+unfolding board
+within s = parts-within (board-of (s .args .board)) (now (s .args .rest)) (s .pre .1)
+
+small : (s : tie.Start) → let b = s .args .board in (b .«value_bytes» ≤ 16) × (arrays-long (board-of b) ≤ 8192)
+unfolding board
+small s = let f = board-in _ (s .pre .0) in (f .value-most, arrays-most _ f)
 
 cast-arrays : tie.Need-cast-arrays
 cast-arrays c = search needs
 
-add-seeds : tie.Need-add-seeds
-add-seeds c = search needs
+arrays-length-requires : tie.Need-arrays-length-requires
+arrays-length-requires c κs = search needs
 
-mul-words : tie.Need-mul-words
-mul-words c = search needs
+add-seeds : tie.Need-add-seeds
+add-seeds c = omega (arith, c .arrays-length .ensures, small (c .before .before .before .before))
+
+seeds-length-requires : tie.Need-seeds-length-requires
+seeds-length-requires c κs = search needs
 
 add-words : tie.Need-add-words
-add-words c = search needs
+add-words c = omega (arith, c .seeds-length .ensures, c .before .arrays-length .ensures, small (c .before .before .before .before .before))
 
 slice-aggregate-deal : tie.Need-slice-aggregate-deal
-unfolding board
-slice-aggregate-deal c = sym (length-take-le _ (now (c .before .before .before .before .before .args .rest)) (omega (arith, parts-within (board-of (c .before .before .before .before .before .args .board)) (now (c .before .before .before .before .before .args .rest)) (c .before .before .before .before .before .pre .1))))
+slice-aggregate-deal c = let s = c .before .before .before .before .before .before in sym (length-take-le _ (now (s .args .rest)) (omega (arith, within s)))
 
 sub-deal : tie.Need-sub-deal
 sub-deal c = search needs
@@ -37,8 +48,7 @@ part-deal-start : tie.Need-part-deal-start
 part-deal-start c = search needs
 
 part-deal-end : tie.Need-part-deal-end
-unfolding board
-part-deal-end c = omega (arith, c .before .before .all-columns .ensures .0, parts-within (board-of (c .before .before .before .before .before .args .board)) (now (c .before .before .before .before .before .args .rest)) (c .before .before .before .before .before .pre .1))
+part-deal-end c = omega (arith, c .before .before .arrays-length .ensures, within (c .before .before .before .before .before .before))
 
 sub-deal-2 : tie.Need-sub-deal-2
 sub-deal-2 c = search needs
@@ -47,16 +57,13 @@ part-deal-start-2 : tie.Need-part-deal-start-2
 part-deal-start-2 c = search needs
 
 part-deal-end-2 : tie.Need-part-deal-end-2
-unfolding board
-part-deal-end-2 c = omega (arith, c .before .before .before .all-columns .ensures .0, parts-within (board-of (c .before .before .before .before .before .before .args .board)) (now (c .before .before .before .before .before .before .args .rest)) (c .before .before .before .before .before .before .pre .1))
+part-deal-end-2 c = omega (arith, c .before .before .seeds-length .ensures, c .before .before .before .arrays-length .ensures, within (c .before .before .before .before .before .before .before))
 
 sub-deal-3 : tie.Need-sub-deal-3
-unfolding board
-sub-deal-3 c = omega (arith, c .before .before .before .before .all-columns .ensures .0, parts-within (board-of (c .before .before .before .before .before .before .before .args .board)) (now (c .before .before .before .before .before .before .before .args .rest)) (c .before .before .before .before .before .before .before .pre .1))
+sub-deal-3 c = omega (arith, c .before .before .before .seeds-length .ensures, c .before .before .before .before .arrays-length .ensures, within (c .before .before .before .before .before .before .before .before))
 
 part-deal-start-3 : tie.Need-part-deal-start-3
-unfolding board
-part-deal-start-3 c = omega (arith, c .before .before .before .before .all-columns .ensures .0, parts-within (board-of (c .before .before .before .before .before .before .before .args .board)) (now (c .before .before .before .before .before .before .before .args .rest)) (c .before .before .before .before .before .before .before .pre .1))
+part-deal-start-3 c = omega (arith, c .before .before .before .seeds-length .ensures, c .before .before .before .before .arrays-length .ensures, within (c .before .before .before .before .before .before .before .before))
 
 part-deal-end-3 : tie.Need-part-deal-end-3
 part-deal-end-3 c = search needs
@@ -70,17 +77,19 @@ same-length c = search needs
 returns : tie.Need-returns
 unfolding board
 returns c =
-    let a = c .before .before .before .before .before .before .before .before .before .before .before .before .args in
-    deal-cut (board-of (a .board)) (a .point) (c .before .before .before .before .before .before .before .before .before .all-columns .result) _ _ (now (a .rest)) _ (now (a .keys)) _ (c .before .before .before .before .before .before .before .before .before .all-columns .ensures .0) refl refl (c .before .before .deal .ensures)
+    let seeds = c .before .before .before .before .before .before .before .before in
+    let a = c .before .before .before .before .before .before .before .before .before .before .before .before .before .args in
+    deal-cut (board-of (a .board)) (a .point) _ _ (now (a .rest)) _ (now (a .keys)) _ (ap (λ (n : ℕ). a .board .«value_bytes» + n) (seeds .before .arrays-length .ensures))
+    (ap (λ (n : ℕ). a .board .«value_bytes» + seeds .before .arrays-length .result + n) (seeds .seeds-length .ensures)) (c .before .before .deal .ensures)
 
 pub deal-parts-spec : {M : Type 1} → statement M
 deal-parts-spec =
     tie.close
     (tie.spec
-    all-columns-requires
     cast-arrays
+    arrays-length-requires
     add-seeds
-    mul-words
+    seeds-length-requires
     add-words
     slice-aggregate-deal
     sub-deal

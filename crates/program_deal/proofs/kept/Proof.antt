@@ -1,4 +1,4 @@
--- `dealing_program::kept` meets its contract, which is the theorem. Assumes nothing.
+-- `program_deal::kept` meets its contract, which is the theorem. Assumes nothing.
 use Rattle.program_deal.proofs.Dealings.{dealing-whole}
 use Rattle.program_deal.proofs.kept.Statement.{statement}
 use Rattle.program_deal.proofs.kept.Tie as tie

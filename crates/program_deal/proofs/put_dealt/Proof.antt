@@ -1,4 +1,4 @@
--- `dealing_program::put_dealt` meets its contract: what Deal says of an output of the most bytes. Assumes nothing.
+-- `program_deal::put_dealt` meets its contract: what Deal says of an output of the most bytes. Assumes nothing.
 use mathlib.Core.Path.{_≡_, ap}
 use Prim.Native.Nat.{ℕ, _*_}
 use native.Mathlib.Omega.{arith}

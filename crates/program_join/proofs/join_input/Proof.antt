@@ -1,4 +1,4 @@
--- `joining_program::join_input` meets its contract: an input longer than any by its first header, any other as Join keys. Assumes nothing.
+-- `program_join::join_input` meets its contract: an input longer than any by its first header, any other as Join keys. Assumes nothing.
 use native.Mathlib.Omega.{arith}
 use denote.Ref.{now}
 use Rattle.program_join.proofs.Joinings.{refused-long, joined-here}

@@ -1,4 +1,4 @@
--- `joining_program::joining_program` meets its contract. Assumes nothing.
+-- `program_join::joining_program` meets its contract. Assumes nothing.
 use mathlib.Core.Path.{sym, _∙_}
 use native.Mathlib.Omega.{arith}
 use denote.Ref.{now}

@@ -1,4 +1,4 @@
--- `joining_program::kept` meets its contract, which is the theorem. Assumes nothing.
+-- `program_join::kept` meets its contract, which is the theorem. Assumes nothing.
 use Rattle.program_join.proofs.Joinings.{joining-whole}
 use Rattle.program_join.proofs.kept.Statement.{statement}
 use Rattle.program_join.proofs.kept.Tie as tie

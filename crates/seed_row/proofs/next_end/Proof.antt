@@ -1,4 +1,4 @@
--- `one_row::next_end` meets its contract. The row ends, or four blocks do. Assumes nothing.
+-- `seed_row::next_end` meets its contract. The row ends, or four blocks do. Assumes nothing.
 use native.Mathlib.Omega.{arith}
 use Rattle.seed_row.proofs.next_end.Statement.{statement}
 use Rattle.seed_row.proofs.next_end.Tie as tie

@@ -1,4 +1,4 @@
--- `one_row::put_rest` meets its contract. At most a block by the scalar stream, else four that are made and cut. Assumes nothing.
+-- `seed_row::put_rest` meets its contract. At most a block by the scalar stream, else four that are made and cut. Assumes nothing.
 use borrow.Author.Needs.{needs}
 use mathlib.Core.Path.{_∙_}
 use native.Mathlib.Omega.{arith}

@@ -1,4 +1,4 @@
--- `one_row::xor_blocks` meets its contract. One block is made, or four, and the front XORed in. Assumes nothing.
+-- `seed_row::xor_blocks` meets its contract. One block is made, or four, and the front XORed in. Assumes nothing.
 use borrow.Author.Needs.{needs}
 use mathlib.Core.Path.{sym, ap, _∙_}
 use mathlib.Core.List.{List}

@@ -1,4 +1,4 @@
--- `one_row::xor_front` meets its contract. The front is as long as the output. Assumes nothing.
+-- `seed_row::xor_front` meets its contract. The front is as long as the output. Assumes nothing.
 use borrow.Author.Needs.{needs}
 use mathlib.Core.Path.{sym}
 use lib.ListN.{length}

@@ -1,4 +1,4 @@
--- `one_row::xor_row` meets its contract. The loop's invariant: the row is XORed in up to `done`, the rest is as it was lent. Assumes nothing.
+-- `seed_row::xor_row` meets its contract. The loop's invariant: the row is XORed in up to `done`, the rest is as it was lent. Assumes nothing.
 use mathlib.Core.Path.{_≡_, _∙_}
 use Prim.Native.Nat.{_-_}
 use native.Mathlib.Omega.{arith}

@@ -1,4 +1,4 @@
--- `rows::xor_each` meets its contract. The loop's invariant: the rows of the seeds before this one are XORed in. Assumes nothing.
+-- `seed_rows::xor_each` meets its contract. The loop's invariant: the rows of the seeds before this one are XORed in. Assumes nothing.
 use borrow.Author.Needs.{needs}
 use mathlib.Core.Path.{_≡_, refl, _∙_, subst}
 use Prim.Native.Nat.{ℕ, _*_, _-_, _/_, _≤_}

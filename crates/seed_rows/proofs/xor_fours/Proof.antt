@@ -1,4 +1,4 @@
--- `rows::xor_fours` meets its contract. The loop's invariant: the rows of the seeds taken are XORed in. Assumes nothing.
+-- `seed_rows::xor_fours` meets its contract. The loop's invariant: the rows of the seeds taken are XORed in. Assumes nothing.
 use borrow.Author.Needs.{needs}
 use mathlib.Core.Path.{_≡_, refl, _∙_}
 use Prim.Native.Nat.{_-_, _≤_}

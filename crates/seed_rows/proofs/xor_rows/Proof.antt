@@ -1,4 +1,4 @@
--- `rows::xor_rows` meets its contract. What is taken by fours, and the seeds behind it. Assumes nothing.
+-- `seed_rows::xor_rows` meets its contract. What is taken by fours, and the seeds behind it. Assumes nothing.
 use borrow.Author.Needs.{needs}
 use lib.ListN.{length}
 use denote.Ref.{now}

@@ -1,4 +1,4 @@
--- `answers::fill` meets its contract. The loop's invariant: the bytes before `i` are the fill. Assumes nothing.
+-- `test_answers::fill` meets its contract. The loop's invariant: the bytes before `i` are the fill. Assumes nothing.
 use mathlib.Core.Path.{_≡_, refl}
 use Prim.Native.Nat.{_≤_, _-_}
 use native.Mathlib.Omega.{arith}

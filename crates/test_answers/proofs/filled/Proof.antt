@@ -1,4 +1,4 @@
--- `answers::filled` meets its contract. The loop's invariant: the bytes before `i` are the fill. Assumes nothing.
+-- `test_answers::filled` meets its contract. The loop's invariant: the bytes before `i` are the fill. Assumes nothing.
 use mathlib.Core.Path.{_≡_, refl, sym}
 use mathlib.Core.Bool.{true≢false}
 use Prim.Native.Nat.{_≤_, _-_}

@@ -1,4 +1,4 @@
--- `answers::left` meets its contract: the front is the answer, and what is behind it the fill. Assumes nothing.
+-- `test_answers::left` meets its contract: the front is the answer, and what is behind it the fill. Assumes nothing.
 use mathlib.Core.Path.{_≡_, refl, sym, subst, _∙_}
 use mathlib.Core.Bool.{true≢false}
 use mathlib.Core.List.{List}

@@ -1,4 +1,4 @@
--- `answers::same_numbers` meets its contract: it answers true behind all six tests. Assumes nothing.
+-- `test_answers::same_numbers` meets its contract: it answers true behind all six tests. Assumes nothing.
 use mathlib.Core.Path.{sym, _∙_}
 use mathlib.Core.Bool.{true≢false}
 use borrow.Author.Needs.{needs}

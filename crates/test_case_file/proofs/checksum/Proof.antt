@@ -1,4 +1,4 @@
--- `case_file::checksum` is safe and ends. The loop's invariant: both sums are below 65521. Assumes nothing.
+-- `test_case_file::checksum` is safe and ends. The loop's invariant: both sums are below 65521. Assumes nothing.
 use Prim.Native.Nat.{_≤_, _<_, _-_}
 use native.Mathlib.Omega.{arith}
 use borrow.Author.Needs.{needs}

@@ -1,4 +1,4 @@
--- `case_file::front` meets its contract. Assumes nothing.
+-- `test_case_file::front` meets its contract. Assumes nothing.
 use mathlib.Core.Path.{sym, ap, _∙_}
 use Prim.Native.Nat.{_≤_}
 use native.Mathlib.Omega.{arith}

@@ -1,4 +1,4 @@
--- `case_file::number_at` meets its contract. Assumes nothing.
+-- `test_case_file::number_at` meets its contract. Assumes nothing.
 use mathlib.Core.Path.{ap, _∙_}
 use borrow.Author.Needs.{needs}
 use Rattle.test_case_file.specs.File.{number-in}

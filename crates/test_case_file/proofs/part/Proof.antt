@@ -1,4 +1,4 @@
--- `case_file::part` meets its contract. Assumes nothing.
+-- `test_case_file::part` meets its contract. Assumes nothing.
 use mathlib.Core.Path.{ap, _∙_}
 use mathlib.Core.List.{List}
 use Prim.Native.Nat.{ℕ}

@@ -1,4 +1,4 @@
--- `keys_trial::main` is safe and ends: the places go from 0 to 78. Assumes nothing.
+-- `test_keys::main` is safe and ends: the places go from 0 to 78. Assumes nothing.
 use Prim.Native.Nat.{_-_, _≤_}
 use native.Mathlib.Omega.{arith}
 use Rattle.test_keys.proofs.main.Statement.{statement}

@@ -1,4 +1,4 @@
--- `keys_trial::print_place` is safe and ends: the values go from 1 to 255. Assumes nothing.
+-- `test_keys::print_place` is safe and ends: the values go from 1 to 255. Assumes nothing.
 use Prim.Native.Nat.{_-_, _≤_}
 use native.Mathlib.Omega.{arith}
 use Rattle.test_keys.proofs.print_place.Statement.{statement}

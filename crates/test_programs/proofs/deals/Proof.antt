@@ -1,4 +1,4 @@
--- `program_cases::deals` is safe: no more is written than the output has room for. Assumes nothing.
+-- `test_programs::deals` is safe: no more is written than the output has room for. Assumes nothing.
 use mathlib.Core.Path.{sym}
 use lib.Seq.{length-take-le}
 use Rattle.program_output.proofs.Writing.{writes-within}

@@ -1,4 +1,4 @@
--- `program_cases::equal` is safe: no more is handed on than the buffer has. Assumes nothing.
+-- `test_programs::equal` is safe: no more is handed on than the buffer has. Assumes nothing.
 use mathlib.Core.Path.{sym}
 use lib.Seq.{length-take-le}
 use native.Mathlib.Omega.{arith}

@@ -1,4 +1,4 @@
--- `program_cases::file_buffer` meets its contract. Assumes nothing.
+-- `test_programs::file_buffer` meets its contract. Assumes nothing.
 use mathlib.Core.Path.{sym}
 use Prim.Native.Nat.{ℕ}
 use lib.ListN.{length-replicate}

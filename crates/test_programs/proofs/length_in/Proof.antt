@@ -1,4 +1,4 @@
--- `program_cases::length_in` meets its contract. The loop's invariant: the value so far is not above the longest. Assumes nothing.
+-- `test_programs::length_in` meets its contract. The loop's invariant: the value so far is not above the longest. Assumes nothing.
 use Prim.Native.Nat.{_≤_, _-_}
 use native.Mathlib.Omega.{arith}
 use lib.ListN.{length}

@@ -1,4 +1,4 @@
--- `program_cases::run` is safe and ends: every turn begins behind the one before. Assumes nothing.
+-- `test_programs::run` is safe and ends: every turn begins behind the one before. Assumes nothing.
 use Prim.Native.Nat.{_-_}
 use native.Mathlib.Omega.{arith}
 use lib.ListN.{length}

@@ -1,4 +1,4 @@
--- `program_cases::word_end` meets its contract. The loop's invariant: the place is between the start and the list's end. Assumes nothing.
+-- `test_programs::word_end` meets its contract. The loop's invariant: the place is between the start and the list's end. Assumes nothing.
 use Prim.Native.Nat.{_-_, _≤_}
 use native.Mathlib.Omega.{arith}
 use lib.ListN.{length}

@@ -1,4 +1,4 @@
--- `vectors::expansion` is safe and ends. The parts of both buffers have as many bytes as asked. Assumes nothing.
+-- `test_vectors::expansion` is safe and ends. The parts of both buffers have as many bytes as asked. Assumes nothing.
 use borrow.Author.Needs.{needs}
 use mathlib.Core.Path.{sym}
 use native.Mathlib.Omega.{arith}

@@ -1,4 +1,4 @@
--- `vectors::same_words` is safe and ends. The loop's invariant: i is at most sixteen. Assumes nothing.
+-- `test_vectors::same_words` is safe and ends. The loop's invariant: i is at most sixteen. Assumes nothing.
 use borrow.Author.Needs.{needs}
 use Prim.Native.Nat.{_≤_, _-_}
 use native.Mathlib.Omega.{arith}

@@ -1,13 +1,12 @@
 -- `writer::clear` meets its contract. The loop's invariant: the first bytes are zero, the rest is as it was lent. Assumes nothing.
-use mathlib.Core.Path.{_≡_, refl, sym, ap, _∙_}
-use mathlib.Core.List.{List, _++_, append-nil}
+use mathlib.Core.Path.{_≡_, refl, _∙_}
+use mathlib.Core.List.{List, append-nil}
 use Prim.Native.Nat.{ℕ, _≤_, _<_, _+_, _-_}
 use native.Mathlib.Omega.{arith}
 use native.Mathlib.Nat.{zero-add}
-use lib.ListN.{length, set, drop, replicate, length-set, length-replicate, getD-replicate, drop-of-length-le}
+use lib.ListN.{length, set, replicate, length-set, length-replicate, getD-replicate, drop-of-length-le}
 use lib.Seq.{paste, paste-zero}
 use denote.Ref.{now}
-use Rattle.writer.specs.Written.{written}
 use Rattle.writer.proofs.Laws.{put-turn, put-done, written-front}
 use Rattle.writer.proofs.clear.Statement.{statement}
 use Rattle.writer.proofs.clear.Tie as tie

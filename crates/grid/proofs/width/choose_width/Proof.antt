@@ -1,8 +1,8 @@
 -- `width::choose_width` meets its contract. The loop's invariant: the search from the present width on, with what is left of the
 -- widths, gives what the whole search gives. The measure is what is left.
 -- Assumes nothing.
-use mathlib.Core.Path.{_≡_, refl, sym, _∙_, ap}
-use Prim.Native.Nat.{ℕ, _*_, _-_, _^_, _≤_}
+use mathlib.Core.Path.{_≡_, sym, _∙_, ap}
+use Prim.Native.Nat.{ℕ, _*_, _-_, _≤_}
 use native.Mathlib.Omega.{arith}
 use Rattle.grid.specs.Width.{width, width-from}
 use Rattle.grid.proofs.Widths.{width-found, width-next, width-last, square-fits, product-fits}

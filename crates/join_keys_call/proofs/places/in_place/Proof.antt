@@ -1,4 +1,4 @@
--- `join_calls::places::in_place` meets its contract. Assumes nothing.
+-- `join_keys_call::places::in_place` meets its contract. Assumes nothing.
 use Rattle.join_keys_call.proofs.InTurn.{both-same, first-other}
 use borrow.Author.Needs.{needs}
 use Rattle.join_keys_call.proofs.places.in_place.Statement.{statement}

@@ -1,4 +1,4 @@
--- `join_calls::places::places_refusal` meets its contract. The loop's invariant: the keys before this place are passed. Assumes nothing.
+-- `join_keys_call::places::places_refusal` meets its contract. The loop's invariant: the keys before this place are passed. Assumes nothing.
 use Prim.Native.Nat.{_+_, _-_, _≤_}
 use native.Mathlib.Omega.{arith}
 use lib.ListN.{length}

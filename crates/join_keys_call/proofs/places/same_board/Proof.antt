@@ -1,4 +1,4 @@
--- `join_calls::places::same_board` meets its contract. Assumes nothing.
+-- `join_keys_call::places::same_board` meets its contract. Assumes nothing.
 use native.Mathlib.Omega.{arith}
 use Rattle.grid.specs.Grid.{board}
 use Rattle.join_keys_call.proofs.InTurn.{other-players, other-positions, other-width, same-but-bytes}

@@ -2,98 +2,66 @@
 use mathlib.Core.Path.{_≡_, sym, _∙_}
 use native.Mathlib.Omega.{arith}
 use denote.Ref.{now}
-use Rattle.grid.specs.Grid.{board-refusal}
-use Rattle.grid.specs.Code.{board-of}
-use Rattle.key_header.specs.Answers.{heading-in}
-use Rattle.key_header.specs.declared.Heading.{Heading}
-use Rattle.key_check.proofs.Checks.{refused-number, refused-early, refused-length, refused-marks, accepted-key}
+use Rattle.keys.specs.Keys.{head-in, head-refusal}
+use Rattle.key_header.specs.Answers.{checked-by}
+use Rattle.key_header.specs.declared.KeyCheck.{KeyCheck}
+use Rattle.key_check.proofs.Checks.{refused-header, header-board, refused-length, refused-marks, accepted-key}
 use borrow.Author.Needs.{needs}
 use Rattle.key_check.proofs.check.check_key.Statement.{statement}
 use Rattle.key_check.proofs.check.check_key.Tie as tie
 
-read : (c : tie.After-known-told)
-    → Heading.Whole (c .before .header .given .0 .0) (c .before .header .given .0 .1 .0)
-    ≡ heading-in (now (c .before .before .before .before .before .args .key))
-read c = sym (c .before .header .given .1) ∙ c .before .before .before .header-in .ensures
+-- the header was accepted
+read : (c : tie.After-board) → let k = c .before .before .before in let key = now (k .before .before .before .before .args .key) in
+    KeyCheck.Accepted (k .heading .given .0 .0) ≡ checked-by (head-refusal (head-in key)) key
+read c = let k = c .before .before .before in sym (k .heading .given .1) ∙ k .before .before .check-header .ensures
+
+check-header-requires : tie.Need-check-header-requires
+check-header-requires c κs = search needs
+
+enum-known-number : tie.Need-enum-known-number
+enum-known-number c = search needs
 
 returns : tie.Need-returns
-returns c = refused-number _ (sym (c .enum-told .given .1) ∙ c .before .before .header-in .ensures)
+returns c = refused-header _ _ (sym (c .before .number .given .1) ∙ c .before .before .before .check-header .ensures)
 
-returns-2 : tie.Need-returns-2
-returns-2 c =
-    let k = c .before .before .before in
-    refused-early _ _ _ (read k) _ _ (c .before .refusal .ensures) (omega (arith, c .if1)) (omega (arith, c .if1))
-
-returns-3 : tie.Need-returns-3
-returns-3 c =
-    let e = c .before in
-    let k = e .before .before .before in
-    refused-early _ _ _ (read k) _ _ (e .before .refusal .ensures) (omega (arith, e .if1, c .if2)) (omega (arith, e .if1))
-
-accepted : (c : tie.Else1) → board-refusal (board-of (c .before .before .before .before .header .given .0 .0 .board)) ≡ 0
-accepted c = sym (c .before .refusal .ensures) ∙ c .if1 .left
-
-returns-6 : tie.Need-returns-6
-returns-6 c =
-    let l = c .before .before .before in
-    let own = l .before .before in
-    let e = own .before in
-    let k = e .before .before .before in
-    accepted-key _ _ _ (read k) (accepted e) (own .if2 .left) _ (l .before .key-length .ensures)
-    (omega (arith, l .if3)) _ (c .before .before .part-from .ensures) _ (c .before .marks-good .ensures) (c .if4 .left)
-
-returns-4 : tie.Need-returns-4
-returns-4 c =
-    let own = c .before .before in
-    let e = own .before in
-    let k = e .before .before .before in
-    refused-length _ _ _ (read k) (accepted e) (own .if2 .left) _ (c .before .key-length .ensures)
-    (omega (arith, c .if3))
-
-returns-5 : tie.Need-returns-5
-returns-5 c =
-    let l = c .before .before .before in
-    let own = l .before .before in
-    let e = own .before in
-    let k = e .before .before .before in
-    refused-marks _ _ _ (read k) (accepted e) (own .if2 .left) _ (l .before .key-length .ensures)
-    (omega (arith, l .if3)) _ (c .before .before .part-from .ensures) _ (c .before .marks-good .ensures) (c .if4 .taken)
-
-header-in-requires : tie.Need-header-in-requires
-header-in-requires c κs = search needs
-
-enum-known-header : tie.Need-enum-known-header
-enum-known-header c = search needs
-
-enum-told : tie.Need-enum-told
-enum-told c = search needs
-
-refusal-requires : tie.Need-refusal-requires
-refusal-requires c κs = search needs
+enum-known-heading : tie.Need-enum-known-heading
+enum-known-heading c = search needs
 
 key-length-requires : tie.Need-key-length-requires
-key-length-requires c κs = search needs
+key-length-requires c κs = header-board _ _ (read c)
+
+returns-2 : tie.Need-returns-2
+returns-2 c = refused-length _ _ (read (c .before .before)) _ (c .before .key-length .ensures) (omega (arith, c .if1))
 
 part-from-requires : tie.Need-part-from-requires
 part-from-requires c κs = search needs
 
 marks-good-requires : tie.Need-marks-good-requires
-marks-good-requires c κs = search needs
+marks-good-requires c κs = header-board _ _ (read (c .before .before .before))
+
+returns-3 : tie.Need-returns-3
+returns-3 c =
+    let own = c .before .before .before in
+    refused-marks _ _ (read (own .before .before)) _ (own .before .key-length .ensures) (omega (arith, own .if1)) _ (c .before .before .part-from .ensures) _
+    (c .before .marks-good .ensures) (c .if2 .taken)
+
+returns-4 : tie.Need-returns-4
+returns-4 c =
+    let own = c .before .before .before in
+    accepted-key _ _ (read (own .before .before)) _ (own .before .key-length .ensures) (omega (arith, own .if1)) _ (c .before .before .part-from .ensures) _
+    (c .before .marks-good .ensures) (c .if2 .left)
 
 pub check-key-spec : {M : Type 1} → statement M
 check-key-spec =
     tie.close
     (tie.spec
-    header-in-requires
-    enum-known-header
-    enum-told
+    check-header-requires
+    enum-known-number
     returns
-    refusal-requires
-    returns-2
-    returns-3
+    enum-known-heading
     key-length-requires
-    returns-4
+    returns-2
     part-from-requires
     marks-good-requires
-    returns-5
-    returns-6)
+    returns-3
+    returns-4)

@@ -1,4 +1,4 @@
--- `compare::calls::dealing_program` is safe: no more is written than the output has room for. Assumes nothing.
+-- `test_compare::calls::dealing_program` is safe: no more is written than the output has room for. Assumes nothing.
 use mathlib.Core.Path.{sym}
 use lib.Seq.{length-take-le}
 use Rattle.program_output.proofs.Writing.{writes-within}

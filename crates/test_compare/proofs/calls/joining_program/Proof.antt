@@ -1,4 +1,4 @@
--- `compare::calls::joining_program` is safe: no more is written than the output has room for. Assumes nothing.
+-- `test_compare::calls::joining_program` is safe: no more is written than the output has room for. Assumes nothing.
 use mathlib.Core.Path.{sym}
 use lib.Seq.{length-take-le}
 use Rattle.program_join.proofs.Joinings.{joins-within}

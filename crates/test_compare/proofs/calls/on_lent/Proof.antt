@@ -1,4 +1,4 @@
--- `compare::calls::on_lent` meets its contract: what the call left is tested last. Assumes nothing.
+-- `test_compare::calls::on_lent` meets its contract: what the call left is tested last. Assumes nothing.
 use mathlib.Core.Path.{sym, subst}
 use mathlib.Core.Bool.{true≢false}
 use Prim.Native.Nat.{ℕ}

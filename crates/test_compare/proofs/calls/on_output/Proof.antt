@@ -1,7 +1,6 @@
--- `compare::calls::on_output` is safe: the lent part is within the output. Assumes nothing.
+-- `test_compare::calls::on_output` is safe: the lent part is within the output. Assumes nothing.
 use mathlib.Core.Path.{sym}
 use native.Mathlib.Omega.{arith}
-use denote.Ref.{now}
 use lib.Seq.{length-take-le}
 use borrow.Author.Needs.{needs}
 use Rattle.test_compare.proofs.calls.on_output.Statement.{statement}

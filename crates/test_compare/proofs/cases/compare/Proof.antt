@@ -1,4 +1,4 @@
--- `compare::cases::compare` is safe and ends. The loop's invariant: no count is above the number of cases passed. Assumes nothing.
+-- `test_compare::cases::compare` is safe and ends. The loop's invariant: no count is above the number of cases passed. Assumes nothing.
 use mathlib.Core.Path.{_≡_, refl, _∙_}
 use Prim.Native.Nat.{_≤_, _-_}
 use native.Mathlib.Omega.{arith}

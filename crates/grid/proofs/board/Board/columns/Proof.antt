@@ -1,6 +1,5 @@
 -- `Board::columns` meets its contract: an accepted board has 2 to 6 players.
 -- Assumes nothing.
-use native.Mathlib.Omega.{arith}
 use borrow.Author.Needs.{needs}
 use Rattle.grid.specs.Grid.{board, columns}
 use Rattle.grid.proofs.Facts.{board-in}

@@ -2,8 +2,7 @@
 -- Assumes nothing.
 use borrow.Author.Needs.{needs}
 use borrow.Author.Tests.{lt-ltb, le-ltb}
-use mathlib.Core.Path.{_≡_, sym, _∙_, ap}
-use mathlib.Core.Bool.{true, false}
+use mathlib.Core.Path.{sym, _∙_, ap}
 use Prim.Native.Nat.{ℕ}
 use native.Mathlib.Omega.{arith}
 use lib.Dec.{ltb}
@@ -15,27 +14,27 @@ use Rattle.grid.proofs.board.Board.refusal.Tie as tie
 -- Each return, and what its test has shown where it was passed
 returns : tie.Need-returns
 unfolding board
-returns c = refused-1 _ (failed (c .before .within .ensures) (c .if1 .taken))
+returns c = refused-1 _ (failed (c .before .players-fit .ensures) (c .if1 .taken))
 
 players-in : (c : tie.Else1) → In 2 (c .before .before .args .self .players) 6
-players-in c = passed (c .before .within .ensures) (c .if1 .left)
+players-in c = passed (c .before .players-fit .ensures) (c .if1 .left)
 
 returns-2 : tie.Need-returns-2
 unfolding board
-returns-2 c = refused-2 _ (players-in (c .before .before)) (failed (c .before .within2 .ensures) (c .if2 .taken))
+returns-2 c = refused-2 _ (players-in (c .before .before)) (failed (c .before .positions-fit .ensures) (c .if2 .taken))
 
 positions-in : (c : tie.Else2) → In 1 (c .before .before .before .before .args .self .positions) 65536
-positions-in c = passed (c .before .within2 .ensures) (c .if2 .left)
+positions-in c = passed (c .before .positions-fit .ensures) (c .if2 .left)
 
 returns-3 : tie.Need-returns-3
 unfolding board
 returns-3 c =
     let before = c .before .before in
     refused-3 _ (players-in (before .before .before)) (positions-in before)
-    (failed (c .before .within3 .ensures) (c .if3 .taken))
+    (failed (c .before .width-fits .ensures) (c .if3 .taken))
 
 width-in : (c : tie.Else3) → In 1 (c .before .before .before .before .before .before .args .self .width) 256
-width-in c = passed (c .before .within3 .ensures) (c .if3 .left)
+width-in c = passed (c .before .width-fits .ensures) (c .if3 .left)
 
 returns-4 : tie.Need-returns-4
 unfolding board
@@ -43,10 +42,10 @@ returns-4 c =
     let before = c .before .before in
     let earlier = before .before .before in
     refused-4 _ (players-in (earlier .before .before)) (positions-in earlier) (width-in before)
-    (failed (c .before .within4 .ensures) (c .if4 .taken))
+    (failed (c .before .value-bytes-fit .ensures) (c .if4 .taken))
 
 bytes-in : (c : tie.Else4) → In 1 (c .before .before .before .before .before .before .before .before .args .self .«value_bytes») 16
-bytes-in c = passed (c .before .within4 .ensures) (c .if4 .left)
+bytes-in c = passed (c .before .value-bytes-fit .ensures) (c .if4 .left)
 
 returns-5 : tie.Need-returns-5
 unfolding board grid-rows
@@ -66,17 +65,17 @@ returns-6 c =
     refused-0 _ (players-in (positions .before .before)) (positions-in positions) (width-in width) (bytes-in bytes)
     (sym (ap (λ (rows : ℕ). ltb 256 rows) (c .before .grid-rows-for .ensures)) ∙ le-ltb 256 (c .before .grid-rows-for .result) (omega (arith, c .if5 .left)))
 
-within-requires : tie.Need-within-requires
-within-requires c κs = search needs
+players-fit-requires : tie.Need-players-fit-requires
+players-fit-requires c κs = search needs
 
-within-requires-2 : tie.Need-within-requires-2
-within-requires-2 c κs = search needs
+positions-fit-requires : tie.Need-positions-fit-requires
+positions-fit-requires c κs = search needs
 
-within-requires-3 : tie.Need-within-requires-3
-within-requires-3 c κs = search needs
+width-fits-requires : tie.Need-width-fits-requires
+width-fits-requires c κs = search needs
 
-within-requires-4 : tie.Need-within-requires-4
-within-requires-4 c κs = search needs
+value-bytes-fit-requires : tie.Need-value-bytes-fit-requires
+value-bytes-fit-requires c κs = search needs
 
 grid-rows-for-requires : tie.Need-grid-rows-for-requires
 grid-rows-for-requires c κs =
@@ -88,13 +87,13 @@ pub refusal-spec : {M : Type 1} → statement M
 refusal-spec =
     tie.close
     (tie.spec
-    within-requires
+    players-fit-requires
     returns
-    within-requires-2
+    positions-fit-requires
     returns-2
-    within-requires-3
+    width-fits-requires
     returns-3
-    within-requires-4
+    value-bytes-fit-requires
     returns-4
     grid-rows-for-requires
     returns-5
