@@ -2,3 +2,4 @@
 pub mod Answering
 pub mod Putting
 pub mod Sizes
+pub mod AsWritten

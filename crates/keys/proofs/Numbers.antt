@@ -257,7 +257,7 @@ written-most vs i =
     omega (arith, ap length whole, length-append (numbers-written (take i vs)) (numbers-written (drop i vs)))
 
 -- THE HEADER BY ITS NUMBERS: five read one behind another, p, player, N, μ, w
-five-good : (p i n m w : Bool) → ((p && i) && (n && (m && w))) ≡ (p && (i && (n && (m && (w && true)))))
+pub five-good : (p i n m w : Bool) → ((p && i) && (n && (m && w))) ≡ (p && (i && (n && (m && (w && true)))))
 five-good true true true true true = refl
 five-good true true true true false = refl
 five-good true true true false w = refl

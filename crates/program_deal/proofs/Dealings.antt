@@ -1,7 +1,7 @@
 -- The laws of the dealing program: its five numbers are read one behind another, its lent parts are cut one behind another, its last numbers
 -- are Deal's with an output of the most bytes, and 65,537 bytes of its input are enough. Assumes nothing.
 use mathlib.Core.Path.{_≡_, refl, sym, ap, _∙_, subst}
-use mathlib.Core.Bool.{Bool, true, false, _||_, not, cond, false≢true}
+use mathlib.Core.Bool.{Bool, true, false, _&&_, _||_, not, cond, false≢true}
 use mathlib.Core.List.{List}
 use Prim.Native.Nat.{ℕ, _+_, _*_, _-_, _≤_, _<_}
 use native.Mathlib.Omega.{arith}
@@ -10,12 +10,13 @@ use lib.ListN.{length, getD, take, drop, length-drop}
 use lib.Seq.{length-take-le, take-all}
 use borrow.Author.Tests.{lt-ltb, le-ltb, le-leb, lt-leb, ltb-true, ltb-false, leb-false, eqb-true, eq-eqb, ne-eqb, not-false}
 use Rattle.grid.specs.Grid.{Board, board, board-refusal, grid-rows, arrays-long, seeds-long, words-long, arrays-good}
-use Rattle.keys.specs.Keys.{numbers-in, Lent, lent, key-long, deal-refusal, or-else}
+use Rattle.keys.specs.Keys.{number-in, numbers-in, Lent, lent, key-long, deal-refusal, or-else}
 use Rattle.key_header.specs.Answers.{five-at}
 use Rattle.key_header.specs.declared.numbers.Five.{Five}
 use Rattle.key_header.proofs.Reading.{five-rest}
 use Rattle.keys.proofs.Accepted.{passed, refusing, first-fits, next-fits, neither}
 use Rattle.keys.proofs.Cut.{numbers-cut}
+use Rattle.keys.proofs.Numbers.{five-good}
 use Rattle.call_answers.specs.Answers.{Put-says, Deal-says}
 use Rattle.call_answers.proofs.Putting.{room-there, answer-is, put, untouched}
 use Rattle.text.specs.Text.{refused-line}
@@ -31,6 +32,22 @@ all-behind : (from : ℕ) (xs : List ℕ) → take (length xs - from) (drop from
 all-behind from xs = take-all (length xs - from) (drop from xs) (omega (arith, length-drop from xs))
 
 -- THE FIVE NUMBERS
+
+-- each read behind the one before, p, N, μ, w and the point
+pub input-is : (bs : List ℕ) → let p = number-in bs in let n = number-in (p .rest) in let m = number-in (n .rest) in let w = number-in (m .rest) in let a = number-in (w .rest) in
+    input-in bs ≡ record {
+      good = (p .good && n .good) && (m .good && (w .good && a .good));
+      board = board (p .value) (n .value) (m .value) (w .value);
+      point = a .value;
+      rest = a .rest;
+    }
+unfolding input-in numbers-in
+input-is bs =
+    let p = number-in bs in
+    let n = number-in (p .rest) in
+    let m = number-in (n .rest) in
+    let w = number-in (m .rest) in
+    let a = number-in (w .rest) in rw (five-good (p .good) (n .good) (m .good) (w .good) (a .good))
 
 module _ (bs : List ℕ) (five : Five) (read : five ≡ five-at bs) where
   pub broken-input : five .whole ≡ false → dealing-output bs ≡ refused-line 10
