@@ -1,5 +1,8 @@
 /* A player's phone and the board's tables for demo/hunt, over the proved library. Standard input to standard output:
+     player check           reads keys, in front of each a line with its length in bytes; writes at once for each a line with its five header numbers
      player open            reads a key; writes its five header numbers on a line, then a line for each position with its share in hexadecimal
+     player join            reads all keys of a match one after another; writes a line for each position with its joined value in hexadecimal
+     player length P N M W  writes the length of a key for P players, N positions, width M and values of W bytes
      player width P N       writes the grid's width for P players and N positions
      player expand N        reads a seed; writes the first N bytes of its row in hexadecimal
      player sensor S        writes the position of sensor S of the spring board
@@ -10,7 +13,12 @@
 #include <stdlib.h>
 #include <string.h>
 
-static uint8_t input[NSG_MOST_KEY_BYTES + 1], output[NSG_MOST_TABLE_BYTES];
+static uint8_t input[NSG_MOST_KEYS_BYTES + 1], output[NSG_MOST_TABLE_BYTES];
+
+static uint32_t number_of(const char *word)
+{
+    return (uint32_t)strtoul(word, NULL, 10);
+}
 
 static int refused(uint32_t number)
 {
@@ -25,6 +33,34 @@ static void put_line(const uint8_t *bytes, uint32_t count)
     printf("\n");
 }
 
+static void put_header(const uint32_t header[NSG_HEADER_NUMBERS])
+{
+    printf("%u %u %u %u %u\n", (unsigned)header[0], (unsigned)header[1], (unsigned)header[2], (unsigned)header[3], (unsigned)header[4]);
+}
+
+static void put_table(const uint32_t header[NSG_HEADER_NUMBERS])
+{
+    for (uint32_t position = 0; position < header[2]; position++)
+        put_line(output + position * header[4], header[4]);
+}
+
+static int check_keys(void)
+{
+    uint32_t header[NSG_HEADER_NUMBERS];
+    unsigned long length;
+    while (scanf("%lu", &length) == 1) {
+        if (getchar() != '\n' || length > sizeof input || fread(input, 1, length, stdin) != length)
+            return 2;
+        uint32_t number = nsg_check_key(input, length, header);
+        if (number != NSG_ACCEPTED)
+            refused(number);
+        else
+            put_header(header);
+        fflush(stdout);
+    }
+    return 0;
+}
+
 static int open_key(void)
 {
     uint32_t header[NSG_HEADER_NUMBERS];
@@ -34,15 +70,37 @@ static int open_key(void)
         number = nsg_open_all(input, length, output, sizeof output);
     if (number != NSG_ACCEPTED)
         return refused(number);
-    printf("%u %u %u %u %u\n", (unsigned)header[0], (unsigned)header[1], (unsigned)header[2], (unsigned)header[3], (unsigned)header[4]);
-    for (uint32_t position = 0; position < header[2]; position++)
-        put_line(output + position * header[4], header[4]);
+    put_header(header);
+    put_table(header);
+    return 0;
+}
+
+/* Where all keys are accepted together, the first one's length is an equal part of theirs, and its header is that of the match. */
+static int join_keys(void)
+{
+    uint32_t header[NSG_HEADER_NUMBERS];
+    uint64_t length = fread(input, 1, sizeof input, stdin);
+    uint32_t number = nsg_join_keys(input, length, output, sizeof output);
+    if (number == NSG_ACCEPTED)
+        number = nsg_check_key(input, length / input[0], header);
+    if (number != NSG_ACCEPTED)
+        return refused(number);
+    put_table(header);
+    return 0;
+}
+
+static int key_length(char **words)
+{
+    uint32_t length = 0, number = nsg_key_length(number_of(words[0]), number_of(words[1]), number_of(words[2]), number_of(words[3]), &length);
+    if (number != NSG_ACCEPTED)
+        return refused(number);
+    printf("%u\n", (unsigned)length);
     return 0;
 }
 
 static int choose_width(const char *players, const char *positions)
 {
-    uint32_t width = 0, number = nsg_choose_width((uint32_t)strtoul(players, NULL, 10), (uint32_t)strtoul(positions, NULL, 10), &width);
+    uint32_t width = 0, number = nsg_choose_width(number_of(players), number_of(positions), &width);
     if (number != NSG_ACCEPTED)
         return refused(number);
     printf("%u\n", (unsigned)width);
@@ -77,16 +135,22 @@ static int sensors(void)
 
 int main(int count, char **words)
 {
+    if (count == 2 && strcmp(words[1], "check") == 0)
+        return check_keys();
     if (count == 2 && strcmp(words[1], "open") == 0)
         return open_key();
+    if (count == 2 && strcmp(words[1], "join") == 0)
+        return join_keys();
+    if (count == 6 && strcmp(words[1], "length") == 0)
+        return key_length(words + 2);
     if (count == 4 && strcmp(words[1], "width") == 0)
         return choose_width(words[2], words[3]);
     if (count == 3 && strcmp(words[1], "expand") == 0)
         return expand(words[2]);
     if (count == 3 && strcmp(words[1], "sensor") == 0)
-        return sensor_position((uint32_t)strtoul(words[2], NULL, 10));
+        return sensor_position(number_of(words[2]));
     if (count == 2 && strcmp(words[1], "sensors") == 0)
         return sensors();
-    fprintf(stderr, "player: open | width P N | expand N | sensor S | sensors\n");
+    fprintf(stderr, "player: check | open | join | length P N M W | width P N | expand N | sensor S | sensors\n");
     return 2;
 }
