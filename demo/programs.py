@@ -123,7 +123,8 @@ class Counter:
         self.shown = len(words) if self.terminal else 0
 
     def read(self, line):
-        if self.progress.read(line):
+        """Takes a line of rt's. Where nothing was shown yet and nothing is proved anew, nothing is."""
+        if self.progress.read(line) or self.shown:
             self.say()
 
     def close(self):
