@@ -1,5 +1,5 @@
-//! A whole hunt on the spring board, nine lines of eight squares: a dealing is drawn, dealt, opened by every player and joined. The random bytes
-//! come from the caller's generator; `main` lends the system's. Drawing is the caller's part and nothing of it is proved:
+//! A whole hunt on the spring board, nine lines of eight squares: a dealing is drawn, dealt, opened by every player and joined. The random
+//! bytes come from the caller's generator; `main` lends the system's. Drawing is the caller's part and nothing of it is proved:
 //! docs/DEALING.md says what it must do. A board wipes what it drew once the keys are handed out; this program ends instead.
 
 use nosingginger::{choose_width, deal, join_keys, join_shares, open_all, open_one, Board, Dealing};
@@ -7,6 +7,7 @@ use std::error::Error;
 use std::fs::File;
 use std::io::{self, Read};
 
+/// The squares of a line.
 const LINE: usize = 8;
 
 /// A generator fills the bytes that it is lent with random ones, or says why it cannot: then nothing is dealt.
@@ -20,7 +21,8 @@ struct Piece {
     value: u8,
 }
 
-fn bytes(length: usize, random: &mut impl Generator) -> io::Result<Vec<u8>> {
+/// This many random bytes.
+fn drawn(length: usize, random: &mut impl Generator) -> io::Result<Vec<u8>> {
     let mut bytes = vec![0; length];
     random(&mut bytes)?;
     Ok(bytes)
@@ -29,9 +31,11 @@ fn bytes(length: usize, random: &mut impl Generator) -> io::Result<Vec<u8>> {
 /// A number below `limit`, which is 1 to 256, each as likely as another: bytes of the incomplete last run are drawn again.
 fn below(limit: usize, random: &mut impl Generator) -> io::Result<usize> {
     loop {
-        let drawn = usize::from(bytes(1, random)?[0]);
-        if drawn < 256 - 256 % limit {
-            return Ok(drawn % limit);
+        let mut byte = [0];
+        random(&mut byte)?;
+        let number = usize::from(byte[0]);
+        if number < 256 - 256 % limit {
+            return Ok(number % limit);
         }
     }
 }
@@ -51,8 +55,8 @@ fn dealt(board: Board, piece: Piece, random: &mut impl Generator) -> Result<Vec<
     for grid_row in 0..board.grid_rows()? as u32 {
         arrays.extend(array(board.players, grid_row == piece.point / board.width, random)?);
     }
-    let seeds = bytes(board.seeds_len()?, random)?;
-    let words = bytes(board.words_len()?, random)?;
+    let seeds = drawn(board.seeds_len()?, random)?;
+    let words = drawn(board.words_len()?, random)?;
     let mut keys = vec![0; board.keys_len()?];
     let dealing = Dealing { board, point: piece.point, value: &[piece.value], arrays: &arrays, seeds: &seeds, words: &words };
     deal(&dealing, &mut keys)?;
@@ -106,7 +110,7 @@ fn main() -> Result<(), Box<dyn Error>> {
 
 #[cfg(test)]
 mod tests {
-    use super::{array, below, bytes, dealt, Piece};
+    use super::{array, below, dealt, drawn, Piece};
     use nosingginger::{join_keys, Board};
     use std::io::Read;
 
@@ -114,8 +118,8 @@ mod tests {
     #[test]
     fn an_array_is_drawn_as_the_guide_draws_it() {
         let mut noise: &[u8] = &[0x1D, 0xFF, 0x64, 0x08];
-        let drawn = array(3, false, &mut |bytes: &mut [u8]| noise.read_exact(bytes));
-        assert_eq!(drawn.unwrap(), [5, 0, 6, 3]);
+        let columns = array(3, false, &mut |bytes: &mut [u8]| noise.read_exact(bytes));
+        assert_eq!(columns.unwrap(), [5, 0, 6, 3]);
         assert!(noise.is_empty());
     }
 
@@ -139,7 +143,7 @@ mod tests {
     fn a_generator_that_ends_stops_the_deal() {
         let board = Board { players: 2, positions: 6, width: 4, value_bytes: 1 };
         let piece = Piece { point: 4, value: 0xA5 };
-        let noise = bytes(134, &mut |bytes: &mut [u8]| std::fs::File::open("/dev/urandom")?.read_exact(bytes)).unwrap();
+        let noise = drawn(134, &mut |bytes: &mut [u8]| std::fs::File::open("/dev/urandom")?.read_exact(bytes)).unwrap();
         let dealt_from = |mut noise: &[u8]| dealt(board, piece, &mut |bytes: &mut [u8]| noise.read_exact(bytes));
         assert!((0..134).all(|length| dealt_from(&noise[..length]).is_err()));
         let mut table = [1; 6];

@@ -22,7 +22,8 @@ pub const SEED_BYTES: usize = 32;
 pub const MOST_EXPANDED_BYTES: usize = 4_096;
 /// The sensors of the spring board, nine lines of eight squares.
 pub const SENSORS: u32 = 72;
-/// The stack that a call may need: a thread with this much to spare is enough. The C tests measure every call of the library and fail above it.
+/// The stack that a call may need: a thread with this much to spare is enough. The C tests measure every call of the library, and fail
+/// above it.
 pub const STACK_BYTES: usize = 32_768;
 
 /// The most bytes that [`Board::arrays_len`] gives.

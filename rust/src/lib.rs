@@ -22,11 +22,13 @@ pub struct Dealing<'a> {
     /// The piece: value_bytes bytes. Zero is allowed.
     pub value: &'a [u8],
     /// An array for each grid row: one byte for each column, bit i of a column being player i's mark. The array of the piece's grid row
-    /// has each column of an odd count of ones exactly once, every other array each of an even count, in an order drawn at random.
+    /// has each column of an odd count of ones exactly once, every other array each of an even count, both in an order drawn uniformly and
+    /// anew for every grid row and every deal. [`Board::arrays_len`] bytes.
     pub arrays: &'a [u8],
-    /// A seed of 32 random bytes for each column of each array, in the order of the arrays.
+    /// A seed of 32 random bytes for each column of each array, in the order of the arrays. Never used for another deal.
+    /// [`Board::seeds_len`] bytes.
     pub seeds: &'a [u8],
-    /// The correction words of all columns but the last: width × value_bytes random bytes for each.
+    /// The correction words of all columns but the last: width × value_bytes random bytes for each. [`Board::words_len`] bytes.
     pub words: &'a [u8],
 }
 
@@ -81,6 +83,8 @@ pub fn key_length(board: Board) -> Result<u32, Refusal> {
 }
 
 /// **Deal**: writes the keys of all players one after another, player 0 first. That takes [`Board::keys_len`] bytes.
+///
+/// The caller wipes point, value, arrays, seeds and words after the call: together they tell where the piece is.
 ///
 /// Refuses as [`key_length`], then [`Point`](Refusal::Point), [`Lent`](Refusal::Lent), [`Arrays`](Refusal::Arrays),
 /// [`Room`](Refusal::Room).
@@ -167,7 +171,8 @@ pub fn join_shares(players: u32, value_bytes: u32, shares: &[u8], value: &mut [u
     answered(unsafe { raw::nsg_join_shares(players, value_bytes, shares, shares_length, value, value_length) })
 }
 
-/// **Join keys**: writes the XOR of the tables of all keys, which stand one after another, player 0 first; positions × value_bytes bytes.
+/// **Join keys**: writes the XOR of the tables of all keys, which stand one after another, player 0 first; [`Board::table_len`]
+/// bytes. Keys of one board that come from different deals are not refused: they join to noise.
 ///
 /// Refuses as [`check_key`] but for the length and the marks, on the first key; [`Length`](Refusal::Length) on all; then for each key in
 /// turn as [`check_key`] but for the length, with [`Place`](Refusal::Place) before [`Marks`](Refusal::Marks);
