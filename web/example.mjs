@@ -12,4 +12,4 @@ console.log(`On square ${dealing.point} the players see ${shares.join(', ')}: no
 const [value] = nosingginger.joinShares({ players: 4, valueBytes: 1, shares: Uint8Array.from(shares) });
 const table = nosingginger.joinKeys(keys);
 const marked = [...table.keys()].filter((square) => table[square] !== 0);
-console.log(`Together that is ${value}. In the table that all keys join to, not zero: ${marked.map((square) => `${table[square]} on square ${square}`)}.`);
+console.log(`Together that is ${value}. All keys joined are zero on every square but ${marked.join(', ')}.`);

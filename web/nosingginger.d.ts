@@ -134,7 +134,7 @@ export class Nosingginger {
      */
     joinKeys(keys: Uint8Array, out?: Uint8Array): Uint8Array;
 
-    /** HELD SEED: the part of the lent key that is the seed of a grid row and a column; empty where the key holds none. It is not refused. */
+    /** HELD SEED: the part of the lent key that is the seed of a grid row and a column; empty where there is none. It is not refused. */
     heldSeed(key: Uint8Array, gridRow: number, column: number): Uint8Array;
 
     /** EXPAND: fills the output, of at most 4,096 bytes, with the first bytes of the seed's key stream. Refusals: 7, 16. */

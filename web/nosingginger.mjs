@@ -1,6 +1,6 @@
 // The eleven operations of Nosingginger for app makers, over its WebAssembly module: numbers and typed arrays in and out, refusals as errors
-// with a name. Runs in node and in browsers, with no other file than the module's bytes. Assumes that those are Nosingginger's. Its types for
-// TypeScript are in nosingginger.d.ts.
+// with a name. Runs in node and in browsers, with no other file than the module's bytes. Assumes that those are Nosingginger's.
+// nosingginger.d.ts has its types.
 //
 //     import { load, Refused } from 'nosingginger';       // or from './nosingginger.mjs'
 //     const nosingginger = await load();                  // with nosingginger.wasm, which lies beside this file
