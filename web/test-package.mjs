@@ -80,7 +80,9 @@ test('the package has no dependencies, and an app imports what is exported and n
         import * as draw from 'nosingginger/draw';
         const place = createRequire(import.meta.url).resolve('nosingginger/nosingginger.wasm');
         console.log((await load()).sensorPosition(8), (await load(place)).sensorPosition(8), Object.keys(draw).sort().join());
-        for (const name of ['page.mjs', 'nosingginger.mjs', 'build']) await import('nosingginger/' + name).catch(({ code }) => console.log(code));
+        for (const name of ['nosingginger.mjs', 'example.mjs', 'build']) {
+            await import('nosingginger/' + name).catch(({ code }) => console.log(code));
+        }
     `;
     const refusal = 'ERR_PACKAGE_PATH_NOT_EXPORTED\n';
     assert.equal(await runInApp('imports.mjs', program), `15 15 ${Object.keys(draw).sort().join()}\n${refusal}${refusal}${refusal}`);

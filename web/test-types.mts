@@ -1,4 +1,4 @@
-// Uses that the types must allow, and uses that they must refuse: tsc fails where a line under @ts-expect-error is allowed. Nothing of this runs.
+// Uses that the types must allow, and uses that they must refuse: tsc fails where a line under @ts-expect-error is allowed. Nothing here runs.
 import { load, loadBase64, Nosingginger, Refused, REFUSALS } from 'nosingginger';
 import type { Board, Dealing, Header, RefusalName, RefusalNumber, RefusalWords } from 'nosingginger';
 import { randomDealing, systemBytes } from 'nosingginger/draw';
@@ -9,8 +9,8 @@ export const said: Said = await import('./nosingginger.mjs');
 export const saidOfDrawing: typeof import('nosingginger/draw') = await import('./draw.mjs');
 
 export async function loaded(bytes: Uint8Array, instance: WebAssembly.Instance, module: WebAssembly.Module): Promise<Nosingginger[]> {
-    return [await load(), await load(bytes), await load(bytes.buffer), await load(new DataView(bytes.buffer)), await load(module),
-        await load(new URL('nosingginger.wasm', import.meta.url)), await load('nosingginger.wasm'), await loadBase64(''), new Nosingginger(instance)];
+    return [new Nosingginger(instance), await load(), await load(bytes), await load(bytes.buffer), await load(new DataView(bytes.buffer)),
+        await load(module), await load(new URL('nosingginger.wasm', import.meta.url)), await load('nosingginger.wasm'), await loadBase64('')];
 }
 
 export function called(nosingginger: Nosingginger, bytes: Uint8Array): RefusalNumber | undefined {
@@ -19,7 +19,8 @@ export function called(nosingginger: Nosingginger, bytes: Uint8Array): RefusalNu
     const keys: Uint8Array = nosingginger.deal(randomDealing(dealing, systemBytes), new Uint8Array(2 * nosingginger.keyLength(board)));
     const header: Header = nosingginger.checkKey(keys);
     const answers: Uint8Array[] = [nosingginger.openOne(keys, 0, bytes), nosingginger.openAll(keys), nosingginger.joinKeys(keys, bytes),
-        nosingginger.joinShares({ players: 2, valueBytes: 1, shares: keys }), nosingginger.heldSeed(keys, 0, 0), nosingginger.expand(bytes, bytes)];
+        nosingginger.joinShares({ players: 2, valueBytes: 1, shares: keys }), nosingginger.heldSeed(keys, 0, 0),
+        nosingginger.expand(bytes, bytes)];
     try {
         nosingginger.keyLength({ ...header, positions: nosingginger.sensorPosition(answers.length) });
         return undefined;
