@@ -1,10 +1,24 @@
-// A published match from the bytes that a page is given: keys cut apart, each checked, and all joined. Every answer is one of the library's
-// calls; what is worked out here is which bytes are a key, and which key an answer is about. Assumes nothing of the bytes.
+// A published match from whatever a person has of it: keys found in files and texts, each checked, put in the players' order, and joined. What a
+// key is and what keys join to are answers of the library's calls; worked out here is which bytes are a key, and how a person would name what
+// is wrong. demo/match.py does the same for the hunt, with the same sentences, and tests/match holds both to the same cases. Assumes nothing
+// of the bytes; nothing here throws for what they are.
 import { Refused } from './nosingginger.mjs';
+import { WORDS } from './words.mjs';
 
 const MOST_KEYS = 6;
 const MOST_SHARE_BYTES = 16;
-const MARKS = 13;
+const SQUARES_IN_A_LINE = 8;
+// All keys of the largest board have 1,579,056 bytes; written as text, they are some times longer.
+export const MOST_FILE_BYTES = 16 * 1024 * 1024;
+
+/** A sentence of WORDS with what belongs in its braces. */
+export function sentence(name, values = {}) {
+    return WORDS[name].replace(/\{(\w+)\}/g, (_, value) => String(values[value]));
+}
+
+export function listed(things) {
+    return things.length < 2 ? things.join('') : `${things.slice(0, -1).join(', ')} and ${things.at(-1)}`;
+}
 
 /** The answer of a call: its value, or its refusal. */
 export function answerOf(call) {
@@ -16,79 +30,21 @@ export function answerOf(call) {
     }
 }
 
-/** What cannot be read as bytes of keys. Its message is for a person. */
-export class Unreadable extends Error {}
+function checked(library, bytes) {
+    const { value, refusal } = answerOf(() => library.checkKey(bytes));
+    return { header: value, refusal };
+}
 
-/** Bytes from hexadecimal digits, with spaces, line breaks, commas, semicolons, colons and 0x between them as anybody writes them. */
-export function bytesOfHexadecimal(text) {
-    const digits = text.replace(/\b0x/gi, ' ').replace(/[\s,;:]/g, '');
-    const other = /[^0-9a-f]/i.exec(digits);
-    if (other) throw new Unreadable(`\u201C${other[0]}\u201D is not a hexadecimal digit.`);
-    if (digits.length % 2 !== 0) throw new Unreadable(`${digits.length} hexadecimal digits: a byte has two.`);
-    return Uint8Array.from({ length: digits.length / 2 }, (_, place) => parseInt(digits.slice(2 * place, 2 * place + 2), 16));
+function isAccepted(library, bytes) {
+    return checked(library, bytes).refusal === null;
 }
 
 export function hexadecimal(bytes) {
     return Array.from(bytes, (byte) => byte.toString(16).toUpperCase().padStart(2, '0')).join('');
 }
 
-/** Whether these bytes are as long as their header asks: Check key accepts them, or has only their marks to refuse. */
-function longAsAsked(library, bytes) {
-    const { refusal } = answerOf(() => library.checkKey(bytes));
-    return refusal === null || refusal.number === MARKS;
-}
-
-function isAccepted(library, bytes) {
-    return answerOf(() => library.checkKey(bytes)).refusal === null;
-}
-
-/** The keys that stand one after another in these bytes; all of them as one, where no cut in equal parts gives a key. */
-export function keysApart(library, bytes) {
-    const cuts = [];
-    for (let many = 1; many <= MOST_KEYS; many += 1) {
-        if (bytes.length % many !== 0) continue;
-        const long = bytes.length / many;
-        const parts = Array.from({ length: many }, (_, place) => bytes.subarray(place * long, (place + 1) * long));
-        cuts.push({ parts, fitting: parts.filter((part) => longAsAsked(library, part)).length });
-    }
-    return cuts.reduce((best, cut) => (cut.fitting > best.fitting ? cut : best)).parts;
-}
-
-/** The keys of one paragraph of text: a key to each line, or bytes that run on over the lines, whichever is accepted more often. */
-function keysOfParagraph(library, paragraph) {
-    const lines = paragraph.split('\n').filter((line) => line.trim() !== '');
-    const runOn = keysApart(library, bytesOfHexadecimal(paragraph));
-    if (lines.length === 1) return runOn;
-    const byLine = answerOfText(() => lines.map(bytesOfHexadecimal));
-    if (byLine === null) return runOn;
-    const [lineCount, runOnCount] = [byLine, runOn].map((keys) => keys.filter((key) => isAccepted(library, key)).length);
-    const alike = byLine.every((key) => key.length === byLine[0].length && key[0] === byLine[0][0]);
-    return lineCount > runOnCount || (lineCount === runOnCount && alike) ? byLine : runOn;
-}
-
-function answerOfText(read) {
-    try {
-        return read();
-    } catch (error) {
-        if (!(error instanceof Unreadable)) throw error;
-        return null;
-    }
-}
-
-/** The keys in a text: paragraphs stand apart; inside one, a key to a line or bytes that run on. */
-export function keysOfText(library, text) {
-    const paragraphs = text.replace(/\r\n?/g, '\n').split(/\n[ \t]*\n/).filter((paragraph) => paragraph.trim() !== '');
-    return paragraphs.flatMap((paragraph) => keysOfParagraph(library, paragraph));
-}
-
-/** The keys in a file: binary, one or all of them one after another, or hexadecimal text. A binary key never starts as a text does. */
-export function keysOfFile(library, bytes) {
-    const isText = bytes.length > 0 && bytes.every((byte) => byte === 9 || byte === 10 || byte === 13 || (byte >= 32 && byte < 127));
-    if (isText) {
-        const keys = answerOfText(() => keysOfText(library, new TextDecoder().decode(bytes)));
-        if (keys !== null) return keys;
-    }
-    return keysApart(library, bytes);
+function bytesOf(digits) {
+    return Uint8Array.from({ length: digits.length / 2 }, (_, place) => parseInt(digits.slice(2 * place, 2 * place + 2), 16));
 }
 
 export function together(parts) {
@@ -101,34 +57,256 @@ export function together(parts) {
     return all;
 }
 
+// ---- the keys in bytes ----
+
+/** Whether these bytes are as long as their header asks: Check key accepts them, or has only their marks to refuse. */
+function longAsAsked(library, bytes) {
+    const { refusal } = checked(library, bytes);
+    return refusal === null || refusal.name === 'REFUSED_MARKS';
+}
+
+/** The keys that stand one after another in these bytes; all of them as one, where no cut in equal parts gives a key. */
+export function keysApart(library, bytes) {
+    let best = { parts: [bytes], fitting: 0 };
+    for (let many = 1; many <= MOST_KEYS; many += 1) {
+        if (bytes.length % many !== 0) continue;
+        const long = bytes.length / many;
+        const parts = Array.from({ length: many }, (_, place) => bytes.subarray(place * long, (place + 1) * long));
+        const fitting = parts.filter((part) => longAsAsked(library, part)).length;
+        if (fitting > best.fitting) best = { parts, fitting };
+    }
+    return best.parts;
+}
+
+// ---- the keys in a text ----
+
+const BREAKS = /\r\n?|[\u000B\u000C\u0085\u2028\u2029]/g;
+const UNSEEN = /[\u200B-\u200D\u2060\uFEFF]/g;
+const SPACES = /[\t\u00A0\u1680\u2000-\u200A\u202F\u205F\u3000]/g;
+// What people and programs put around a line: mail's quotes, bullets, quotation marks, brackets, fences.
+const BEFORE = /^[ >|*\u2022\u2013"'\u201C\u201D\u201E\u2018\u2019\u00AB\u00BB`[\](){}-]+/;
+const BEHIND = /[ "'\u201C\u201D\u2018\u2019\u00AB\u00BB`[\](){},;.]+$/;
+const LABEL = /^player *#?([0-9]{1,2})["'\u201D\u2019]*(?:s? key)? *[:=.)-]* */i;
+const NUMBERED = /^(?:[0-9]{1,3}(?:[.)\]]+:? *|: +)|#[0-9]{1,3}[.:)\]]* +)/;
+const COMMENT = /^(?:#|\/\/)/;
+
+/** One line of a text: the player that it says it is of, whether a key begins with it, its hexadecimal digits, and a sign that is none. */
+function readLine(text) {
+    let rest = text.replace(BEFORE, '').replace(BEHIND, '');
+    const label = LABEL.exec(rest);
+    const numbered = label ?? NUMBERED.exec(rest);
+    if (numbered !== null) rest = rest.slice(numbered[0].length).replace(BEFORE, '');
+    else if (COMMENT.test(rest)) rest = '';
+    const digits = rest.replace(/\b0x/gi, '').replace(/[ ,;:_-]/g, '');
+    const [other] = [...digits].filter((sign) => !/^[0-9a-f]$/i.test(sign));
+    return { label: label === null ? null : Number(label[1]), begins: numbered !== null, digits, other };
+}
+
+/** The lines that belong together, and whose they say they are: a labelled or numbered line begins a block, an empty one ends it. */
+function blocksOf(text) {
+    const blocks = [];
+    let open = false;
+    text.replace(BREAKS, '\n').replace(UNSEEN, '').replace(SPACES, ' ').split('\n').forEach((line, index) => {
+        const read = { ...readLine(line), number: index + 1 };
+        if (read.begins || (read.digits !== '' && !open)) blocks.push({ label: read.label, lines: [] });
+        open = read.begins || read.digits !== '';
+        if (read.digits !== '') blocks.at(-1).lines.push(read);
+    });
+    return blocks.filter(({ lines }) => lines.length > 0);
+}
+
+/** A key to each of these lines, where each has whole bytes. */
+function byLine(lines) {
+    return lines.every(({ digits }) => digits.length % 2 === 0) ? lines.map((line) => ({ line, bytes: bytesOf(line.digits) })) : [];
+}
+
+/** The bytes of these lines run on, cut in keys; each stands where its first byte does. */
+function runOn(library, lines) {
+    const digits = lines.map((line) => line.digits).join('');
+    const parts = digits.length % 2 === 0 ? keysApart(library, bytesOf(digits)) : [];
+    return parts.map((bytes, place) => {
+        let before = 2 * bytes.length * place;
+        const line = lines.find((one) => (before -= one.digits.length) < 0);
+        return { line, bytes };
+    });
+}
+
+/** The keys of one block: a key to each line, or bytes that run on over the lines, whichever is accepted more often. */
+function keysOfBlock(library, lines) {
+    if (lines.length === 1) return runOn(library, lines);
+    const ways = [byLine(lines), runOn(library, lines)];
+    const [lineCount, runOnCount] = ways.map((keys) => keys.filter(({ bytes }) => isAccepted(library, bytes)).length);
+    const alike = ways[0].length > 0 && ways[0].every(({ bytes }) => bytes.length === ways[0][0].bytes.length && bytes[0] === ways[0][0].bytes[0]);
+    return lineCount > runOnCount || (lineCount === runOnCount && alike) ? ways[0] : ways[1];
+}
+
+function whereOf(name, lines) {
+    const [first, last] = [lines[0].number, lines.at(-1).number];
+    return `${name === '' ? '' : `${name}, `}${first === last ? `line ${first}` : `lines ${first} to ${last}`}`;
+}
+
+/**
+ * The keys in a text, and what could not be read. A line that is no hexadecimal takes none of the others with it.
+ * @param {string} name of the file that the text is from, or ''
+ * @returns {{ keys: { bytes: Uint8Array, from: string, label: ?number }[], problems: string[] }}
+ */
+export function keysOfText(library, text, name = '') {
+    const [keys, problems] = [[], []];
+    for (const { label, lines } of blocksOf(text)) {
+        const wrong = lines.filter(({ other }) => other !== undefined);
+        for (const line of wrong) problems.push(sentence('no digit', { where: whereOf(name, [line]), sign: line.other }));
+        const found = wrong.length === 0 ? keysOfBlock(library, lines)
+            : byLine(lines.filter((line) => !wrong.includes(line) && line.digits.length % 2 === 0)).filter(({ bytes }) => isAccepted(library, bytes));
+        if (wrong.length === 0 && found.length === 0) {
+            const count = lines.reduce((sum, { digits }) => sum + digits.length, 0);
+            problems.push(sentence('odd digits', { where: whereOf(name, lines), count }));
+        }
+        found.forEach(({ line, bytes }) => keys.push({ bytes, from: whereOf(name, [line]), label: line === lines[0] ? label : null }));
+    }
+    if (keys.length === 0 && problems.length === 0) problems.push(sentence('empty', { where: name === '' ? 'the text' : name }));
+    return { keys, problems };
+}
+
+/** The text that these bytes are, in UTF-8 or, with its mark, UTF-16; null where they are none. A binary key never begins as a text does. */
+function textOf(bytes) {
+    const wide = bytes[0] === 0xFF && bytes[1] === 0xFE ? 'utf-16le' : bytes[0] === 0xFE && bytes[1] === 0xFF ? 'utf-16be' : null;
+    try {
+        const text = new TextDecoder(wide ?? 'utf-8', { fatal: true }).decode(bytes);
+        // eslint-disable-next-line no-control-regex
+        return /[\u0000-\u0008\u000E-\u001F\u007F]/.test(text) ? null : text;
+    } catch {
+        return null;
+    }
+}
+
+/** The keys in a file, and what could not be read: text, or binary with one key or several one after another. */
+export function keysOfFile(library, bytes, name) {
+    if (bytes.length > MOST_FILE_BYTES) return { keys: [], problems: [sentence('too long', { where: name })] };
+    if (bytes.length === 0) return { keys: [], problems: [sentence('empty', { where: name })] };
+    const text = textOf(bytes);
+    if (text !== null) return keysOfText(library, text, name);
+    const parts = keysApart(library, bytes);
+    const from = (place) => (parts.length === 1 ? name : `${name}, part ${place + 1}`);
+    return { keys: parts.map((part, place) => ({ bytes: part, from: from(place), label: null })), problems: [] };
+}
+
+/** The whole match as a text: a line for each key, in the players' order. */
+export function matchText(keys) {
+    return keys.map((bytes, player) => `player ${player}: ${hexadecimal(bytes)}\n`).join('');
+}
+
+// ---- what the keys are ----
+
+/** The five numbers that these bytes begin with, as a key's header has them; null where they are cut short. */
+function headerNumbers(bytes) {
+    const numbers = [];
+    for (let at = 0; numbers.length < 5; ) {
+        let [number, shift] = [0, 0];
+        do {
+            if (at === bytes.length || shift > 14) return null;
+            number += (bytes[at] & 127) * 2 ** shift;
+            shift += 7;
+            at += 1;
+        } while (bytes[at - 1] > 127);
+        numbers.push(number);
+    }
+    const [players, player, positions, width, valueBytes] = numbers;
+    return { players, player, positions, width, valueBytes };
+}
+
+/** Why a key by itself is refused, as a person would say it. */
+function refusedWords(library, bytes, { name }) {
+    if (name === 'REFUSED_MARKS') return sentence('damaged');
+    if (name === 'REFUSED_PLAYER') return sentence('no such player');
+    if (name !== 'REFUSED_LENGTH') return sentence('no key');
+    const asked = library.keyLength(headerNumbers(bytes));
+    return sentence(bytes.length < asked ? 'cut short' : 'too many bytes', { bytes: bytes.length, asked });
+}
+
 export function sameBoard(one, other) {
     return ['players', 'positions', 'width', 'valueBytes'].every((name) => one[name] === other[name]);
 }
 
+/** How a key's board differs from that of the match. */
+function otherBoardWords(header, board) {
+    if (header.players !== board.players) return sentence('other players', { players: WORDS.numbers[header.players] });
+    if (header.positions !== board.positions) return sentence('other squares', header);
+    return sentence(header.width !== board.width ? 'other width' : 'other value', header);
+}
+
+/** The board of the match: the first for which all players' keys are here; else the first of those with most. */
+function boardOf(headers) {
+    const boards = headers.filter((header, place) => headers.findIndex((one) => sameBoard(one, header)) === place);
+    const here = (board) => new Set(headers.filter((header) => sameBoard(header, board)).map(({ player }) => player)).size;
+    const better = (one, other) => {
+        const [whole, otherWhole] = [one, other].map((board) => here(board) === board.players);
+        return whole !== otherWhole ? otherWhole : here(other) > here(one);
+    };
+    return boards.reduce((best, board) => (best === null || better(best, board) ? board : best), null);
+}
+
+function sameBytes(one, other) {
+    return one.length === other.length && one.every((byte, place) => byte === other[place]);
+}
+
+/** What is to be said of one key beside those before it: its sentence, and whether the match can do without it. */
+function standingOf(library, key, before, board) {
+    const { header, refusal } = key;
+    if (refusal !== null) return { state: 'refused', words: refusedWords(library, key.bytes, refusal) };
+    if (!sameBoard(header, board)) return { state: 'other', words: otherBoardWords(header, board) };
+    const earlier = before.filter((one) => one.header !== null && sameBoard(one.header, board) && one.header.player === header.player);
+    if (earlier.some(({ bytes }) => sameBytes(bytes, key.bytes))) return { state: 'copy', words: sentence('copy', header) };
+    if (earlier.length > 0) return { state: 'conflict', words: sentence('conflict', header) };
+    const isLabelled = key.label !== null && key.label !== header.player;
+    return { state: 'used', words: isLabelled ? sentence('other label', { label: key.label, player: header.player }) : null };
+}
+
 /**
- * Checks each key, and joins them when all are accepted and none is missing.
- * @returns {{ checked: { header: ?object, refusal: ?Refused }[], board: ?object, missing: number[], joined: ?Uint8Array,
- *     refusal: ?Refused, about: ?number }} each key's answer; the board of the first accepted key; the players whose keys are awaited; the
- *     joined table, or the refusal of joining and the place of the key that it is about, if it is about one
+ * Checks each key, puts those of the match in the players' order, and joins them when none is missing and no two speak against each other.
+ * @param {{ bytes: Uint8Array, from: string, label: ?number }[]} keys
+ * @returns {{ keys: object[], board: ?object, players: ?object[], missing: number[], missingWords: ?string, joined: ?Uint8Array, refusal: ?Refused }}
+ *     the keys as given, each with header or refusal, state ('used', 'copy', 'conflict', 'other' or 'refused') and words; the match's board;
+ *     its keys by player, null where one is missing; the joined table, or the library's refusal to join what is here
  */
 export function examine(library, keys) {
-    const checked = keys.map((key) => {
-        const { value, refusal } = answerOf(() => library.checkKey(key));
-        return { header: value, refusal };
-    });
-    const board = checked.find(({ header }) => header !== null)?.header ?? null;
-    const nothing = { checked, board, missing: [], joined: null, refusal: null, about: null };
-    if (board === null || checked.some(({ refusal }) => refusal !== null)) return nothing;
-    const headers = checked.map(({ header }) => header);
-    const here = new Set(headers.map(({ player }) => player));
-    const oneBoard = headers.every((header) => sameBoard(header, board));
-    if (oneBoard && here.size === headers.length && headers.length < board.players) {
-        const all = Array.from({ length: board.players }, (_, player) => player);
-        return { ...nothing, missing: all.filter((player) => !here.has(player)) };
-    }
-    const { value, refusal } = answerOf(() => library.joinKeys(together(keys)));
-    const misplaced = headers.findIndex((header, place) => !sameBoard(header, board) || header.player !== place);
-    return { ...nothing, joined: value, refusal, about: refusal?.name === 'REFUSED_PLACE' ? misplaced : null };
+    const examined = keys.map((key) => ({ ...key, ...checked(library, key.bytes) }));
+    const board = boardOf(examined.flatMap(({ header }) => (header === null ? [] : [header])));
+    examined.forEach((key, place) => Object.assign(key, standingOf(library, key, examined.slice(0, place), board)));
+    const nothing = { keys: examined, board, players: [], missing: [], missingWords: null, joined: null, refusal: null };
+    if (board === null) return nothing;
+    const players = Array.from({ length: board.players }, (_, player) =>
+        examined.find(({ state, header }) => state === 'used' && header.player === player) ?? null);
+    const missing = players.flatMap((key, player) => (key === null ? [player] : []));
+    const missingWords = missing.length === 0 ? null
+        : missing.length === 1 ? sentence('missing', { player: missing[0] }) : sentence('several missing', { players: listed(missing) });
+    const inOrder = examined.filter(({ state }) => state === 'used' || state === 'conflict')
+        .sort((one, other) => one.header.player - other.header.player);
+    const { value, refusal } = answerOf(() => library.joinKeys(together(inOrder.map(({ bytes }) => bytes))));
+    return { ...nothing, players, missing, missingWords, joined: value, refusal };
+}
+
+// ---- what they join to ----
+
+/** The positions whose entry is not zero. */
+export function marked(table, { positions, valueBytes }) {
+    return Array.from({ length: positions }, (_, position) => position)
+        .filter((position) => table.subarray(position * valueBytes, (position + 1) * valueBytes).some((byte) => byte !== 0));
+}
+
+/** A square in words; `sensor` is undefined where the board is not the spring board. */
+export function squareWords(position, sensor) {
+    const values = { position, line: Math.floor(position / SQUARES_IN_A_LINE), column: position % SQUARES_IN_A_LINE, sensor };
+    return sentence(sensor === undefined ? 'square' : 'square with sensor', values);
+}
+
+/** What a joined table shows, in a sentence: the piece, several squares, or none. */
+export function joinedWords(table, board, sensorOf) {
+    const found = marked(table, board);
+    if (found.length === 0) return sentence('zero');
+    if (found.length > 1) return sentence('several', { count: found.length });
+    const [position] = found;
+    const value = hexadecimal(table.subarray(position * board.valueBytes, (position + 1) * board.valueBytes));
+    return sentence('piece', { place: squareWords(position, sensorOf(position)), value });
 }
 
 /** The XOR of some players' tables, by Join shares, sixteen bytes at a time. */
@@ -141,12 +319,6 @@ export function joinTables(library, tables) {
         joined.set(library.joinShares({ players: tables.length, valueBytes, shares }), at);
     }
     return joined;
-}
-
-/** The positions whose entry is not zero. */
-export function marked(table, { positions, valueBytes }) {
-    return Array.from({ length: positions }, (_, position) => position)
-        .filter((position) => table.subarray(position * valueBytes, (position + 1) * valueBytes).some((byte) => byte !== 0));
 }
 
 /** The printed deal of document 01, with the seeds and words of the stored input of the program `dealer`. */

@@ -1,5 +1,5 @@
 // Tests of nosingginger.mjs in node: every call, every refusal, the printed deal, what is left of a lent output, the largest table, the
-// memory's growth, the second implementation's answers, the example, and what the page makes of keys. Assumes that targets/build has run.
+// memory's growth, the second implementation's answers, drawn dealings and the example. Assumes that targets/build has run.
 import assert from 'node:assert/strict';
 import { execFileSync } from 'node:child_process';
 import { readFileSync, readdirSync } from 'node:fs';
@@ -7,8 +7,7 @@ import { test } from 'node:test';
 import { fileURLToPath } from 'node:url';
 import { load, loadBase64, Nosingginger, Refused, REFUSALS } from './nosingginger.mjs';
 import { randomDealing, systemBytes } from './draw.mjs';
-import { bytesOfHexadecimal, examine, hexadecimal, joinTables, keysApart, keysOfFile, keysOfText, marked, printedDeal, Unreadable }
-    from './match.mjs';
+import { keysApart, marked, printedDeal } from './match.mjs';
 import { sameEachTime } from './random.mjs';
 
 const root = new URL('../', import.meta.url);
@@ -364,63 +363,6 @@ test('the second implementation\u2019s answers, all cases of the eleven operatio
     assert.deepEqual([...tried.keys()].sort((a, b) => a - b), Object.keys(OPERATIONS).map(Number));
     const numbers = new Set([...tried.values()].flatMap((set) => [...set]));
     assert.deepEqual([...numbers].sort((a, b) => a - b), Array.from({ length: 18 }, (_, number) => number));
-});
-
-test('hexadecimal text is read as anybody writes it', () => {
-    const bytes = Uint8Array.of(2, 0, 0xA5, 0xFF);
-    for (const text of ['0200A5FF', '02 00 a5 ff', '0x02, 0x00, 0xA5, 0xff', '02:00:A5:FF', '0200\nA5FF\n', '\t0200a5 FF\r\n']) {
-        assert.deepEqual(bytesOfHexadecimal(text), bytes);
-    }
-    assert.equal(hexadecimal(bytes), '0200A5FF');
-    for (const text of ['0200A5F', 'xyz', '02-00', 'A5h', '\u0661\u0662']) assert.throws(() => bytesOfHexadecimal(text), Unreadable);
-});
-
-test('keys are found in text and in files', () => {
-    for (const players of [2, 3, 4, 5, 6]) {
-        const all = nosingginger.deal(spring(players));
-        const keys = keysApart(nosingginger, all);
-        assert.equal(keys.length, players);
-        const texts = [keys.map(hexadecimal).join('\n'), keys.map(hexadecimal).join('\n\n'), hexadecimal(all),
-            hexadecimal(all).replace(/.{60}/g, '$&\n'), keys.map((key) => hexadecimal(key).replace(/.{32}/g, '$&\r\n')).join('\r\n\r\n')];
-        for (const text of texts) {
-            assert.deepEqual(keysOfText(nosingginger, text), keys);
-            assert.deepEqual(keysOfFile(nosingginger, new TextEncoder().encode(text)), keys);
-        }
-        assert.deepEqual(keysOfFile(nosingginger, all), keys);
-        assert.deepEqual(keysOfFile(nosingginger, keys[1]), [keys[1]]);
-        // A damaged key among good ones is cut from them all the same, and stands alone when it is alone.
-        for (const place of [0, 2, 5]) {
-            const damaged = all.slice();
-            damaged[place] ^= 0x80;
-            assert.equal(keysOfFile(nosingginger, damaged).length, players);
-            assert.deepEqual(keysOfText(nosingginger, hexadecimal(damaged.subarray(0, keys[0].length)).replace(/.{60}/g, '$&\n')),
-                [damaged.subarray(0, keys[0].length)]);
-        }
-        const both = keys.slice(0, 2).map((key) => key.map((byte, at) => (at === 5 ? byte ^ 1 : byte)));
-        assert.deepEqual(keysOfText(nosingginger, both.map(hexadecimal).join('\n')), both);
-    }
-    assert.deepEqual(keysOfFile(nosingginger, new Uint8Array(0)), [new Uint8Array(0)]);
-    assert.deepEqual(keysOfText(nosingginger, ' \n\n '), []);
-});
-
-test('a match is examined: accepted, awaited, refused, in the wrong order, of two boards', () => {
-    const dealing = spring(4);
-    const keys = keysApart(nosingginger, nosingginger.deal(dealing));
-    const whole = examine(nosingginger, keys);
-    assert.deepEqual([whole.refusal, whole.about, whole.missing], [null, null, []]);
-    assert.deepEqual(marked(whole.joined, whole.board), [dealing.point]);
-    assert.deepEqual(whole.joined, joinTables(nosingginger, keys.map((key) => nosingginger.openAll(key))));
-    assert.deepEqual(examine(nosingginger, []), { checked: [], board: null, missing: [], joined: null, refusal: null, about: null });
-    assert.deepEqual(examine(nosingginger, [keys[2], keys[0]]).missing, [1, 3]);
-    const swapped = examine(nosingginger, [keys[0], keys[2], keys[1], keys[3]]);
-    assert.deepEqual([swapped.joined, swapped.refusal.number, swapped.about], [null, 15, 1]);
-    const twice = examine(nosingginger, [keys[0], keys[0]]);
-    assert.deepEqual([twice.joined, twice.refusal.number, twice.about], [null, 12, null]);
-    const tooMany = examine(nosingginger, [...keys, keys[0]]);
-    assert.deepEqual([tooMany.joined, tooMany.refusal.number, tooMany.about], [null, 12, null]);
-    const damaged = examine(nosingginger, [keys[0], keys[1].subarray(1), keys[2], keys[3]]);
-    assert.deepEqual([damaged.joined, damaged.refusal], [null, null]);
-    assert.deepEqual(damaged.checked.map(({ refusal }) => refusal === null), [true, false, true, true]);
 });
 
 test('the system\u2019s bytes are as many as are asked for, on the largest board too', { skip: !globalThis.crypto }, () => {

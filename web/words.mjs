@@ -1,0 +1,33 @@
+// The sentences that the page and the hunt both say, so that both say the same. What stands between the braces is JSON: demo/match.py reads it
+// too. A name in braces inside a sentence is put in by whoever says it.
+export const WORDS = {
+    "piece": "The piece lies on {place}. Its value is {value}.",
+    "caution": "Nothing checks yet that one dealing made these keys: compare each fingerprint with the one written down when the keys were dealt.",
+    "several": "{count} squares are not zero: a byte was changed, or these keys are not of one dealing.",
+    "zero": "Every square is zero: the hidden value is zero, a byte was changed, or these keys are not of one dealing.",
+
+    "square": "square {position} (line {line}, column {column})",
+    "square with sensor": "square {position} (line {line}, column {column}, sensor {sensor})",
+
+    "no digit": "{where}: “{sign}” is no hexadecimal digit",
+    "odd digits": "{where}: {count} hexadecimal digits, and a byte has two",
+    "empty": "{where} is empty",
+    "too long": "{where} is too long: no board has so many bytes of keys",
+
+    "no key": "this is no key: it does not begin as a key does",
+    "no such player": "this key is of a player that its board does not have",
+    "cut short": "this key is cut short: {bytes} of its {asked} bytes are here",
+    "too many bytes": "this key has {bytes} bytes, and only {asked} belong to it",
+    "damaged": "this key is damaged: at least one of its bytes was changed",
+    "other players": "this key is of a board for {players} players",
+    "other squares": "this key is of a board of {positions} squares",
+    "other width": "this key is of a board whose grid is {width} wide",
+    "other value": "this key is of a board with values of {valueBytes} bytes",
+    "other label": "this line says player {label}, and the key is player {player}’s",
+    "copy": "player {player}’s key is here twice, the same both times",
+    "conflict": "player {player}’s key is here twice, and the two are not the same",
+    "missing": "player {player}’s key is missing",
+    "several missing": "the keys of players {players} are missing",
+
+    "numbers": ["no", "one", "two", "three", "four", "five", "six"]
+};
