@@ -1,4 +1,4 @@
-# The C library for board makers and app makers: header, archive and a pkg-config file.
+# The C library for board makers and app makers: headers, archive and a pkg-config file.
 #   make                          proves the library and builds the archive with rt, where it is absent or older than a source
 #   make install PREFIX=/usr      installs; DESTDIR is put in front of every path, as packages want it
 #   make uninstall PREFIX=/usr    removes what install put there
@@ -7,11 +7,11 @@ PREFIX ?= /usr/local
 INCLUDEDIR ?= $(PREFIX)/include
 LIBDIR ?= $(PREFIX)/lib
 PKGCONFIGDIR ?= $(LIBDIR)/pkgconfig
-VERSION = 0.1.0
+VERSION := $(shell cat VERSION)
 RT ?= rt
 INSTALL ?= install
 
-HEADER = include/nosingginger.h
+HEADERS = include/nosingginger.h include/nosingginger_words.h
 ARCHIVE = target/staticlib/libnosingginger_c.a
 SOURCES = crates.txt $(wildcard crates/*/src/*.rt crates/*/specs/*.antt)
 
@@ -29,12 +29,13 @@ target/nosingginger.pc: Makefile FORCE
 
 install: $(ARCHIVE) target/nosingginger.pc
 	$(INSTALL) -d '$(DESTDIR)$(INCLUDEDIR)' '$(DESTDIR)$(LIBDIR)' '$(DESTDIR)$(PKGCONFIGDIR)'
-	$(INSTALL) -m 644 $(HEADER) '$(DESTDIR)$(INCLUDEDIR)/nosingginger.h'
+	$(INSTALL) -m 644 $(HEADERS) '$(DESTDIR)$(INCLUDEDIR)'
 	$(INSTALL) -m 644 $(ARCHIVE) '$(DESTDIR)$(LIBDIR)/libnosingginger_c.a'
 	$(INSTALL) -m 644 target/nosingginger.pc '$(DESTDIR)$(PKGCONFIGDIR)/nosingginger.pc'
 
 uninstall:
-	rm -f '$(DESTDIR)$(INCLUDEDIR)/nosingginger.h' '$(DESTDIR)$(LIBDIR)/libnosingginger_c.a' '$(DESTDIR)$(PKGCONFIGDIR)/nosingginger.pc'
+	for header in $(notdir $(HEADERS)); do rm -f '$(DESTDIR)$(INCLUDEDIR)'/$$header; done
+	rm -f '$(DESTDIR)$(LIBDIR)/libnosingginger_c.a' '$(DESTDIR)$(PKGCONFIGDIR)/nosingginger.pc'
 
 test: $(ARCHIVE)
 	tests/run-c

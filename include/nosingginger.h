@@ -52,6 +52,9 @@
 extern "C" {
 #endif
 
+/* The version, which `pkg-config --modversion nosingginger` tells too. */
+#define NSG_VERSION "0.1.0"
+
 /* THE BOUNDS. */
 #define NSG_LEAST_PLAYERS 2u
 #define NSG_MOST_PLAYERS 6u
@@ -82,7 +85,8 @@ extern "C" {
 #define NSG_MOST_KEYS_BYTES 1579056u
 #define NSG_MOST_TABLE_BYTES 1048576u
 
-/* WHAT A CALL RETURNS, and what each number means. */
+/* WHAT A CALL RETURNS, and what each number means. A program that shows numbers to people has their names and words from the header beside
+   this one, nosingginger_words.h. */
 #define NSG_ACCEPTED 0u             /* the call did what it says */
 #define NSG_REFUSED_PLAYERS 1u      /* the number of players is not 2 to 6 */
 #define NSG_REFUSED_POSITIONS 2u    /* the number of positions is not 1 to 65,536 */

@@ -76,6 +76,11 @@ class Browser {
         return page;
     }
 
+    /** Where files go that a page saves. */
+    saveTo(folder) {
+        return this.send('Browser.setDownloadBehavior', { behavior: 'allow', downloadPath: folder });
+    }
+
     async close() {
         const ended = new Promise((resolve) => this.#child.on('exit', resolve));
         await this.send('Browser.close').catch(() => {});
@@ -186,9 +191,15 @@ class Page {
         }));
     }
 
-    /** Writes a picture of the part of the page that an element takes. */
+    /** Waits until nothing moves. */
+    settled() {
+        return this.run(() => Promise.all(document.getAnimations().map((animation) => animation.finished)).then(() => null));
+    }
+
+    /** Writes a picture of the part of the page that an element takes, or of the window where none is named. */
     async screenshot(file, selector = 'html') {
         const clip = await this.run((name) => {
+            if (name === null) return { x: scrollX, y: scrollY, width: innerWidth, height: innerHeight, scale: 1 };
             const { left, top, width, height } = document.querySelector(name).getBoundingClientRect();
             return { x: left + scrollX, y: top + scrollY, width, height, scale: 1 };
         }, selector);

@@ -1,4 +1,19 @@
 // Draws a dealing from a source of random bytes: what a board's noise chip does. Nothing here is proved, nor that the bytes are random.
+// Assumes that a source answers as many bytes as it is asked for, drawn uniformly, and never the same again.
+
+// The system gives at most this many bytes at once.
+const SYSTEM_BYTES = 65536;
+
+/**
+ * Random bytes from the system, as many as are asked for.
+ * @param {number} length
+ * @returns {Uint8Array}
+ */
+export function systemBytes(length) {
+    const bytes = new Uint8Array(length);
+    for (let at = 0; at < length; at += SYSTEM_BYTES) crypto.getRandomValues(bytes.subarray(at, at + SYSTEM_BYTES));
+    return bytes;
+}
 
 /** A whole number below `bound` (at most 2 to the power of 24), each as likely as another: draws that would favour some are thrown away. */
 function below(bound, random) {
@@ -24,10 +39,10 @@ function shuffledArray(players, parity, random) {
 /**
  * A dealing of this board with a drawn point and a drawn value that is not zero.
  * @param {import('./nosingginger.mjs').Board} board
- * @param {(length: number) => Uint8Array} random the source of random bytes
+ * @param {(length: number) => Uint8Array} [random] the source of random bytes; the system's where none is given
  * @returns {import('./nosingginger.mjs').Dealing}
  */
-export function randomDealing({ players, positions, width, valueBytes }, random) {
+export function randomDealing({ players, positions, width, valueBytes }, random = systemBytes) {
     const columns = 2 ** (players - 1);
     const gridRows = Math.ceil(positions / width);
     const point = below(positions, random);

@@ -9,7 +9,7 @@ const MOST_KEYS = 6;
 const MOST_SHARE_BYTES = 16;
 const SQUARES_IN_A_LINE = 8;
 // All keys of the largest board have 1,579,056 bytes; written as text, they are some times longer.
-const MOST_FILE_BYTES = 16 * 1024 * 1024;
+export const MOST_FILE_BYTES = 16 * 1024 * 1024;
 
 /** A sentence of WORDS with what belongs in its braces. */
 export function sentence(name, values = {}) {

@@ -1,35 +1,36 @@
 // The eleven operations of Nosingginger for app makers, over its WebAssembly module: numbers and typed arrays in and out, refusals as errors
 // with a name. Runs in node and in browsers, with no other file than the module's bytes. Assumes that those are Nosingginger's.
+// nosingginger.d.ts has its types.
 //
-//     import { load, Refused } from './nosingginger.mjs';
-//     const nosingginger = await load(await readFile('nosingginger.wasm'));       // node
-//     const nosingginger = await load(new URL('nosingginger.wasm', location));    // a browser, from a server
-//     const header = nosingginger.checkKey(key);                                  // or throws Refused
+//     import { load, Refused } from 'nosingginger';       // or from './nosingginger.mjs'
+//     const nosingginger = await load();                  // with nosingginger.wasm, which lies beside this file
+//     const header = nosingginger.checkKey(key);          // or throws Refused
 //
 // The WebAssembly module is the proved module compiled for another machine, and tested there; this file is tested, not proved.
 
 /**
- * The refusal numbers of document 01, by the names that all of Nosingginger's interfaces use, with the words for a person.
+ * The refusal numbers of document 01, by the names that all of Nosingginger's interfaces use, with the words for a person: those of the
+ * repository's refusals.txt. The refusal of a number is REFUSALS[number - 1].
  * @type {ReadonlyArray<{ readonly number: number, readonly name: string, readonly words: string }>}
  */
 export const REFUSALS = Object.freeze([
     [1, 'REFUSED_PLAYERS', 'the number of players is not 2 to 6'],
     [2, 'REFUSED_POSITIONS', 'the number of positions is not 1 to 65,536'],
-    [3, 'REFUSED_WIDTH', 'the grid\u2019s width is not 1 to 256'],
-    [4, 'REFUSED_VALUE_BYTES', 'a value\u2019s width is not 1 to 16 bytes'],
+    [3, 'REFUSED_WIDTH', "the grid's width is not 1 to 256"],
+    [4, 'REFUSED_VALUE_BYTES', "a value's width is not 1 to 16 bytes"],
     [5, 'REFUSED_GRID_ROWS', 'the board has more than 256 grid rows at this width'],
-    [6, 'REFUSED_POINT', 'the piece\u2019s point is none of the board\u2019s positions'],
+    [6, 'REFUSED_POINT', "the piece's point is none of the board's positions"],
     [7, 'REFUSED_LENT', 'an input does not have the length that the numbers ask for'],
     [8, 'REFUSED_ARRAYS', 'an array has a bit of no player, the wrong parity for its grid row, or a column twice'],
     [9, 'REFUSED_ROOM', 'the output is too short for what is to be written'],
-    [10, 'REFUSED_NUMBER', 'a key\u2019s header has a number that is cut short, over three groups or not in its shortest form'],
-    [11, 'REFUSED_PLAYER', 'a key\u2019s player is not below its number of players'],
+    [10, 'REFUSED_NUMBER', "a key's header has a number that is cut short, over three groups or not in its shortest form"],
+    [11, 'REFUSED_PLAYER', "a key's player is not below its number of players"],
     [12, 'REFUSED_LENGTH', 'a key, or all keys together, do not have the length that the header asks for'],
     [13, 'REFUSED_MARKS', 'a key marks another number of columns than half in some grid row, or has a spare bit set'],
-    [14, 'REFUSED_POSITION', 'the position is none of the board\u2019s'],
+    [14, 'REFUSED_POSITION', "the position is none of the board's"],
     [15, 'REFUSED_PLACE', 'a key is of another board than the first, or not of the player whose place it stands in'],
     [16, 'REFUSED_EXPANSION', 'more than 4,096 bytes are asked of a seed'],
-    [17, 'REFUSED_SENSOR', 'the sensor is none of the spring board\u2019s 72'],
+    [17, 'REFUSED_SENSOR', "the sensor is none of the spring board's 72"],
 ].map(([number, name, words]) => Object.freeze({ number, name, words })));
 
 /** A call that was refused. The lent output is as it was. */
@@ -73,11 +74,17 @@ const CALLS = ['key_length', 'deal', 'check_key', 'open_one', 'open_all', 'join_
     'sensor_position'];
 
 /**
- * Makes the operations from the WebAssembly module.
- * @param {BufferSource | WebAssembly.Module | URL | string} source the module's bytes, the module, or where its bytes are
+ * Makes the operations from the WebAssembly module. The source may be
+ *   - nothing: the file nosingginger.wasm that lies beside this one, wherever that is;
+ *   - the module's bytes, or the compiled module;
+ *   - a URL: file: (in node), http:, https:, data: or blob:;
+ *   - a string. In node it is a path, unless it is a whole URL; a relative one leads from the folder that the program was started in. In a
+ *     browser it is what fetch takes: a relative one leads from the page's base address, in a worker from the worker's script.
+ * Where nothing can be had, or something else than Nosingginger's module, the promise is rejected.
+ * @param {BufferSource | WebAssembly.Module | URL | string} [source]
  * @returns {Promise<Nosingginger>}
  */
-export async function load(source) {
+export async function load(source = new URL('nosingginger.wasm', import.meta.url)) {
     const module = source instanceof WebAssembly.Module ? source : await WebAssembly.compile(await bytesAt(source));
     return new Nosingginger(await WebAssembly.instantiate(module));
 }
@@ -91,13 +98,19 @@ export async function loadBase64(text) {
     return load(Uint8Array.from(atob(text.trim()), (letter) => letter.charCodeAt(0)));
 }
 
-/** The bytes themselves, or those that a place holds. A browser does not fetch from files: there, lend the bytes or base64. */
+// A string that starts so is no path. The name of node's files stands apart, so that tools that bundle an app for browsers do not seek it.
+const WHOLE_URL = /^(?:file|https?|data|blob):/i;
+const NODE_FILES = 'node:fs/promises';
+
+/** The bytes themselves, or those that a place holds. A browser fetches nothing from files: there, lend the bytes or base64. */
 async function bytesAt(source) {
     if (!(source instanceof URL) && typeof source !== 'string') return source;
-    const place = new URL(source, globalThis.document?.baseURI ?? import.meta.url);
-    if (place.protocol === 'file:' && globalThis.process?.versions?.node) return (await import('node:fs/promises')).readFile(place);
+    const place = WHOLE_URL.test(source) ? new URL(source) : source;
+    if (globalThis.process?.versions?.node && (typeof place === 'string' || place.protocol === 'file:')) {
+        return (await import(/* webpackIgnore: true */ /* @vite-ignore */ NODE_FILES)).readFile(place);
+    }
     const answer = await fetch(place);
-    if (!answer.ok) throw new Error(`no WebAssembly module at ${place}: ${answer.status}`);
+    if (!answer.ok) throw new Error(`no WebAssembly module at ${answer.url}: ${answer.status}`);
     return answer.arrayBuffer();
 }
 

@@ -1,23 +1,24 @@
 // The page that reopens a match: it reads keys, asks the library, and shows what it answers. Assumes page.html's elements.
 import { loadBase64 } from './nosingginger.mjs';
 import { randomDealing } from './draw.mjs';
-import { answerOf, examine, hexadecimal, joinTables, keysApart, keysOfFile, keysOfText, marked, printedDeal, sameBoard, together, Unreadable }
-    from './match.mjs';
+import { fingerprint } from './fingerprint.mjs';
+import { answerOf, examine, hexadecimal, joinedWords, joinTables, keysApart, keysOfFile, keysOfText, listed, marked, matchText, MOST_FILE_BYTES,
+    printedDeal, sentence, squareWords, together } from './match.mjs';
+import { WORDS } from './words.mjs';
 
 const SQUARES_IN_A_LINE = 8;
 const SQUARES_SHOWN = 256;
 const SENSORS = 72;
-// All keys of the largest board have 1,579,056 bytes; written as text, they are some times longer.
-const MOST_FILE_BYTES = 16 * 1024 * 1024;
-const NUMBERS = ['no', 'one', 'two', 'three', 'four', 'five', 'six'];
+const SMALL_BYTES = 2;
+const DEALT_HERE = 'An example: your browser hid this piece and dealt these keys just now.';
 
 const library = await loadBase64(element('module').textContent).catch((error) => {
-    say('status', `The library cannot be opened in this browser: ${error.message}.`);
+    element('problems').replaceChildren(make('li', {}, `The library cannot be opened in this browser: ${error.message}.`));
     throw error;
 });
 
-// What is here: the keys in their order, and what is looked at.
-const state = { keys: [], found: null, chosen: null, player: null, coalition: new Set(), together: null, first: 0, named: 0 };
+// What is here: the keys as they were given, those set aside while an example is shown, what the library says of them, and what is looked at.
+const state = { keys: [], aside: null, found: null, pieces: [], chosen: null, first: 0, members: new Set(), sensors: false, together: null, named: 0 };
 
 function element(id) {
     return document.getElementById(id);
@@ -39,52 +40,47 @@ function capital(words) {
     return words[0].toUpperCase() + words.slice(1);
 }
 
-function listed(things) {
-    return things.length < 2 ? things.join('') : `${things.slice(0, -1).join(', ')} and ${things.at(-1)}`;
+function counted(number, one, more = `${one}s`) {
+    return `${WORDS.numbers[number] ?? number.toLocaleString('en')} ${number === 1 ? one : more}`;
 }
 
-function counted(number, one, more = `${one}s`) {
-    return `${number.toLocaleString('en')} ${number === 1 ? one : more}`;
+/** A refusal as the one list of them has it, for whoever wants the number. */
+function refusalWords({ number, name, words }) {
+    return `Refusal ${number}, ${name.replace('REFUSED_', '')}: ${words}.`;
 }
 
 // ---- keys ----
 
-/** Takes keys in behind those that are here, and tells what became of them. */
-function addKeys(parts, from) {
-    for (const [place, bytes] of parts.entries()) {
-        state.named += 1;
-        state.keys.push({ name: state.named, bytes: bytes.slice(), from: parts.length === 1 ? from : `${from}, part ${place + 1}`, table: null });
-    }
+/** Takes keys in beside those that are here. Keys that a reader gives end an example. */
+function addKeys(keys) {
+    if (state.aside !== null) leaveExample();
+    state.keys = [...state.keys, ...keys.map(named)];
     keysChanged();
+    if (keys.length > 0) toAnswer();
+}
+
+function named(key) {
+    state.named += 1;
+    return { ...key, bytes: key.bytes.slice(), id: state.named, fingerprint: fingerprint(key.bytes) };
 }
 
 function keysChanged() {
-    state.found = examine(library, state.keys.map(({ bytes }) => bytes));
-    const { board, joined } = state.found;
-    const pieces = joined === null ? [] : marked(joined, board);
-    state.found.pieces = pieces;
-    const holders = holdersOf(board);
-    if (!holders.some(({ player }) => player === state.player)) state.player = holders[0]?.player ?? null;
-    state.coalition = new Set(holders.map(({ player }) => player).slice(0, Math.max(1, (board?.players ?? 1) - 1)));
-    if (pieces.length > 0) choose(pieces[0]);
+    state.found = examine(library, state.keys);
+    const { board, joined, players } = state.found;
+    state.pieces = joined === null ? [] : marked(joined, board);
+    const here = players.flatMap((key, player) => (key === null ? [] : [player]));
+    state.members = new Set(here.slice(0, Math.max(1, (board?.players ?? 1) - 1)));
+    if (state.pieces.length > 0) choose(state.pieces[0]);
     else if (board === null || state.chosen === null || state.chosen >= board.positions) choose(board === null ? null : 0);
+    element('intake').open = joined === null;
+    for (const id of ['square-part', 'group-part']) if (board === null) element(id).open = false;
     show();
 }
 
-/** The keys that can be opened on this board: accepted, of this board, the first of each player, in the players' order. */
-function holdersOf(board) {
-    if (board === null) return [];
-    const holders = new Map();
-    state.keys.forEach((key, place) => {
-        const { header } = state.found.checked[place];
-        if (header !== null && sameBoard(header, board) && !holders.has(header.player)) holders.set(header.player, { player: header.player, key });
-    });
-    return [...holders.values()].sort((one, other) => one.player - other.player);
-}
-
-function tableOf(key) {
-    key.table ??= library.openAll(key.bytes);
-    return key.table;
+/** The answer comes into view, and a reader by ear or keyboard is there. */
+function toAnswer() {
+    element('answer').focus({ preventScroll: true });
+    element('result').scrollIntoView({ block: 'start' });
 }
 
 function choose(position) {
@@ -92,67 +88,55 @@ function choose(position) {
     if (position !== null) state.first = Math.floor(position / SQUARES_SHOWN) * SQUARES_SHOWN;
 }
 
-/** One sentence or two on where the match stands. */
-function standing() {
-    const { checked, board, missing, joined, refusal, about, pieces } = state.found;
-    if (checked.length === 0) return 'No keys are here yet.';
-    const refused = checked.flatMap((answer, place) => (answer.refusal === null ? [] : [{ ...answer, place }]));
-    if (refused.length > 0) {
-        const [first] = refused;
-        const others = refused.length > 1 ? ` ${capital(counted(refused.length - 1, 'other key is', 'other keys are'))} refused too.` : '';
-        return `The key at place ${first.place} is refused with ${first.refusal.number}: ${first.refusal.words}.${others}`;
-    }
-    if (missing.length > 0) {
-        const who = missing.length === 1 ? 'player' : 'players';
-        return `${counted(checked.length, 'key')} of ${board.players}, all accepted. Missing: ${who} ${listed(missing)}.`;
-    }
-    if (refusal !== null) {
-        const whose = about === null ? ` There are ${counted(checked.length, 'key')} here for ${board.players} players.`
-            : ` This is the key at place ${about}, of player ${checked[about].header.player}.`;
-        return `Each key is accepted alone. Joining them is refused with ${refusal.number}: ${refusal.words}.${whose}`;
-    }
-    return `${counted(checked.length, 'key')}, all accepted and joined. ${pieceWords(board, joined, pieces)}`;
+function holders() {
+    return state.found.players.flatMap((key, player) => (key === null ? [] : [{ player, key }]));
 }
 
-function pieceWords(board, joined, pieces) {
-    if (pieces.length === 0) return 'Every square is zero: the hidden value was zero, or these keys are not of one dealing.';
-    if (pieces.length > 1) return `${capital(counted(pieces.length, 'square'))} are not zero: these keys are not of one dealing.`;
-    const [position] = pieces;
-    return `The piece lies on square ${position}${sensorWords(board, position)}. Its value is ${hexadecimal(entry(joined, board, position))}.`;
+/** What a key's line says: whose it is, whether it fits, where it is from, and its fingerprint or what is wrong. */
+function keyLine({ state: standing, words, header, from, fingerprint: print }) {
+    const fits = standing === 'used' || standing === 'copy';
+    const whose = header === null || standing === 'other' ? [] : [make('strong', {}, `Player ${header.player}`), ' '];
+    return [...whose, make('span', { className: fits ? 'fits' : 'fails' }, fits ? '\u2713' : '\u2717', make('span', { className: 'unseen' }, fits ? ' fits' : ' does not fit')),
+        ' ', make('span', { className: 'from' }, from), ' ',
+        standing === 'used' ? make('span', { className: 'print' }, `${print.slice(0, 4)}\u2026`) : make('span', { className: 'wrong' }, capital(words))];
 }
 
-function keyItem(key, place) {
-    const { header, refusal } = state.found.checked[place];
-    const misplaced = state.found.about === place ? state.found.refusal : null;
-    const answer = refusal ?? misplaced;
-    const verdict = answer === null ? [make('strong', {}, 'Accepted')]
-        : [make('strong', {}, `Refused ${answer.number}`), ` ${answer.words}.`,
-            misplaced === null ? '' : ` By itself the key is accepted; here the key of player ${place} is expected.`];
-    const numbers = header === null ? [] : [make('dl', { className: 'numbers' }, ...[
-        ['players', header.players], ['player', header.player], ['squares', header.positions], ['grid width', header.width],
-        ['value bytes', header.valueBytes],
-    ].map(([name, number]) => make('div', {}, make('dt', {}, name), make('dd', {}, number.toLocaleString('en')))))];
-    const control = (action, words, more, usable) => make('button', {
-        type: 'button', disabled: !usable, onclick: () => moveKey(key, action),
-        aria: { 'data-key': key.name, 'data-action': action, 'aria-label': `${words}${more}: the key at place ${place}` },
-    }, words);
-    return make('li', { className: answer === null ? 'accepted' : 'refused' },
-        make('h3', {}, `Place ${place}`, make('span', { className: 'from' }, ` ${key.from}, ${counted(key.bytes.length, 'byte')}`)),
-        make('p', { className: 'answer' }, ...verdict), ...numbers,
-        make('p', { className: 'actions' }, control('earlier', 'Up', ' one place', place > 0),
-            control('later', 'Down', ' one place', place + 1 < state.keys.length), control('remove', 'Remove', '', true)));
+function keyItem(key) {
+    const { id, state: standing, words, header, refusal, bytes, from, fingerprint: print } = key;
+    const numbers = [['Fingerprint (SHA-256)', print], ['Length', counted(bytes.length, 'byte')]];
+    if (header !== null) {
+        numbers.push(['Board', `${WORDS.numbers[header.players]} players, ${counted(header.positions, 'square')}, values of ${counted(header.valueBytes, 'byte')}`],
+            ['Grid', `${header.width} wide`]);
+    }
+    const notes = [standing === 'used' && words !== null ? `${capital(words)}.` : null, refusal === null ? null : refusalWords(refusal)];
+    return make('li', { className: standing }, make('details', { aria: { 'data-key': id } },
+        make('summary', {}, ...keyLine(key)),
+        ...notes.filter((note) => note !== null).map((note) => make('p', { className: 'note-line' }, note)),
+        make('dl', { className: 'numbers' }, ...numbers.map(([name, value]) => make('div', {}, make('dt', {}, name), make('dd', {}, value)))),
+        make('button', { type: 'button', onclick: () => removeKey(id), aria: { 'aria-label': `Remove the key ${from}` } }, 'Remove this key')));
 }
 
-function moveKey(key, action) {
-    const place = state.keys.indexOf(key);
-    state.keys.splice(place, 1);
-    if (action !== 'remove') state.keys.splice(action === 'earlier' ? place - 1 : place + 1, 0, key);
+function missingItem(player) {
+    return make('li', { className: 'missing' }, make('strong', {}, `Player ${player}`), ' ', make('span', {}, 'missing'));
+}
+
+/** The keys of the match by player, what is missing in its place, and behind them whatever does not belong. */
+function showKeys() {
+    const open = new Set([...document.querySelectorAll('#keys details[open]')].map(({ dataset }) => dataset.key));
+    const { keys, players } = state.found;
+    const others = keys.filter((key) => !players.includes(key));
+    const items = [...players.map((key, player) => (key === null ? missingItem(player) : keyItem(key))), ...others.map(keyItem)];
+    element('keys').replaceChildren(...items);
+    for (const details of document.querySelectorAll('#keys details')) details.open = open.has(details.dataset.key);
+}
+
+function removeKey(id) {
+    const summaries = () => [...document.querySelectorAll('#keys summary')];
+    const place = summaries().findIndex((summary) => summary.parentElement.dataset.key === String(id));
+    state.keys = state.keys.filter((key) => key.id !== id);
     keysChanged();
-    // The focus stays with the key that was moved, or goes to its neighbour's button, or to what is said of an empty list.
-    const next = action === 'remove' ? state.keys[Math.min(place, state.keys.length - 1)] : key;
-    const buttons = next === undefined ? [] : [...element('keys').querySelectorAll(`button[data-key="${next.name}"]`)];
-    const same = buttons.find((button) => button.dataset.action === action && !button.disabled);
-    (same ?? buttons.find((button) => !button.disabled) ?? element('status')).focus();
+    const left = summaries();
+    (left[Math.min(place, left.length - 1)] ?? element('files')).focus();
 }
 
 // ---- boards ----
@@ -164,57 +148,71 @@ function entry(table, { valueBytes }, position) {
 // Position by position, the sensor of the spring board that lies there.
 const sensorAt = new Map(Array.from({ length: SENSORS }, (_, sensor) => [library.sensorPosition(sensor), sensor]));
 
-function sensorOf(board, position) {
-    return board.positions === SENSORS ? sensorAt.get(position) : undefined;
+function sensorOf(position) {
+    return state.found.board.positions === SENSORS ? sensorAt.get(position) : undefined;
 }
 
-function sensorWords(board, position) {
-    const sensor = sensorOf(board, position);
-    return sensor === undefined ? '' : `, sensor ${sensor}`;
+function placeWords(position) {
+    return squareWords(position, sensorOf(position));
 }
 
-/** One square of a table. What a long value has no room for is in the words of the square and in its shares. */
-function squareCell(table, board, position, pieces) {
+/** The digits that a square has room for; a longer value stands whole in the square's name and in its shares. */
+function shownDigits(digits) {
+    return digits.length > 8 ? `${digits.slice(0, 4)}\n\u2026` : digits.match(/.{1,4}/g).join('\n');
+}
+
+/** One square of a table. In a joined table a zero is a dot; the piece has its look only where it is alone. */
+function squareCell(table, board, position, isJoined) {
     const value = entry(table, board, position);
+    const isZero = value.every((byte) => byte === 0);
+    const isPiece = isJoined && state.pieces.length === 1 && !isZero;
+    const look = !isJoined ? 'noise' : isZero ? 'zero' : isPiece ? 'piece' : 'wrong';
     const digits = hexadecimal(value);
-    const isPiece = pieces.includes(position);
-    const sensor = sensorOf(board, position);
+    const sensor = state.sensors ? sensorOf(position) : undefined;
+    const words = isZero && isJoined ? 'zero' : `value ${digits}${isPiece ? ', the piece' : ''}`;
     const cell = make('td', {
-        tabIndex: -1, className: isPiece ? 'piece' : value.every((byte) => byte === 0) ? 'zero' : 'noise',
+        tabIndex: -1, className: look,
         aria: { role: 'gridcell', 'data-position': position, 'aria-selected': String(position === state.chosen),
-            'aria-label': `Square ${position}${sensorWords(board, position)}, value ${digits}${isPiece ? ', the piece' : ''}` },
-    }, make('span', { className: 'at' }, String(position)),
-    make('span', { className: 'value' }, digits.length > 8 ? `${digits.slice(0, 4)}\n\u2026` : digits.match(/.{1,4}/g).join('\n')),
+            'aria-label': `${capital(placeWords(position))}: ${words}` },
+    }, make('span', { className: 'value' }, isZero && isJoined ? '\u00B7' : shownDigits(digits)),
     ...(sensor === undefined ? [] : [make('span', { className: 'sensor' }, String(sensor))]));
     cell.style.setProperty('--level', String(value[0] / 255));
     return cell;
 }
 
-/** Shows a table as lines of eight squares, from the first square that is looked at. */
-function showTable(id, table, board, label, pieces = []) {
+function lineOf(table, board, start, last, isJoined) {
+    const line = make('tr', { aria: { role: 'row' } },
+        make('th', { scope: 'row', aria: { role: 'rowheader', 'aria-label': `Line ${start / SQUARES_IN_A_LINE}` } }, String(start / SQUARES_IN_A_LINE)));
+    for (let position = start; position < Math.min(last, start + SQUARES_IN_A_LINE); position += 1) {
+        line.append(squareCell(table, board, position, isJoined));
+    }
+    return line;
+}
+
+/** Shows a table as lines of eight squares with their headings, from the first square that is looked at. */
+function showTable(id, table, board, label, isJoined) {
     const place = element(id);
     const focused = place.contains(document.activeElement) ? Number(document.activeElement.dataset.position) : null;
     const last = Math.min(board.positions, state.first + SQUARES_SHOWN);
+    const columns = Array.from({ length: Math.min(SQUARES_IN_A_LINE, board.positions) }, (_, column) => column);
+    const heading = make('tr', { aria: { role: 'row' } }, make('th', { className: 'corner', scope: 'col', aria: { role: 'columnheader', 'aria-label': 'Line' } }),
+        ...columns.map((column) => make('th', { scope: 'col', aria: { role: 'columnheader', 'aria-label': `Column ${column}` } }, String(column))));
     const lines = [];
-    for (let start = state.first; start < last; start += SQUARES_IN_A_LINE) {
-        const line = make('tr', { aria: { role: 'row' } },
-            make('th', { scope: 'row', aria: { role: 'rowheader' } }, make('span', { className: 'unseen' }, `Line ${start / SQUARES_IN_A_LINE}`)));
-        for (let position = start; position < Math.min(last, start + SQUARES_IN_A_LINE); position += 1) {
-            line.append(squareCell(table, board, position, pieces));
-        }
-        lines.push(line);
-    }
-    const grid = make('table', { className: board.valueBytes > 2 ? 'squares wide' : 'squares', onkeydown: moveInGrid, onclick: chooseInGrid,
-        aria: { role: 'grid', 'aria-label': label, 'aria-describedby': 'grid-help' } }, make('tbody', { aria: { role: 'rowgroup' } }, ...lines));
-    const entered = grid.querySelector(`[data-position="${focused ?? state.chosen}"]`) ?? grid.querySelector('td');
+    for (let start = state.first; start < last; start += SQUARES_IN_A_LINE) lines.push(lineOf(table, board, start, last, isJoined));
+    const grid = make('table', { className: board.valueBytes > SMALL_BYTES ? 'squares tall' : 'squares', onkeydown: moveInGrid, onclick: chooseInGrid,
+        aria: { role: 'grid', 'aria-label': label, 'aria-describedby': 'grid-help' } },
+    make('thead', { aria: { role: 'rowgroup' } }, heading), make('tbody', { aria: { role: 'rowgroup' } }, ...lines));
+    grid.classList.toggle('with-sensors', state.sensors && board.positions === SENSORS);
+    const entered = grid.querySelector(`[data-position="${focused ?? state.chosen}"]`) ?? grid.querySelector('td[data-position]');
     entered.tabIndex = 0;
     place.replaceChildren(grid);
     if (focused !== null) entered.focus();
 }
 
 function moveInGrid(event) {
-    const cell = event.target.closest('td');
-    const position = Number(cell?.dataset.position);
+    const cell = event.target.closest('td[data-position]');
+    if (cell === null) return;
+    const position = Number(cell.dataset.position);
     const last = state.found.board.positions - 1;
     const lineStart = position - position % SQUARES_IN_A_LINE;
     const to = {
@@ -227,16 +225,13 @@ function moveInGrid(event) {
         chooseSquare(position);
     } else if (to !== undefined && event.altKey === false) {
         event.preventDefault();
-        if (to >= 0 && to <= last) focusSquare(cell.closest('.table'), cell, to);
+        if (to >= 0 && to <= last) focusSquare(cell.closest('.table'), to);
     }
 }
 
-function focusSquare(place, cell, position) {
+function focusSquare(place, position) {
     const first = Math.floor(position / SQUARES_SHOWN) * SQUARES_SHOWN;
-    if (first !== state.first) {
-        state.first = first;
-        showBoards();
-    }
+    if (first !== state.first) turnTo(first);
     const next = place.querySelector(`[data-position="${position}"]`);
     for (const other of place.querySelectorAll('td[tabindex="0"]')) other.tabIndex = -1;
     next.tabIndex = 0;
@@ -244,12 +239,13 @@ function focusSquare(place, cell, position) {
 }
 
 function chooseInGrid(event) {
-    const cell = event.target.closest('td');
+    const cell = event.target.closest('td[data-position]');
     if (cell !== null) chooseSquare(Number(cell.dataset.position));
 }
 
 function chooseSquare(position) {
     choose(position);
+    element('square-part').open = true;
     showBoards();
     showShares();
 }
@@ -257,92 +253,103 @@ function chooseSquare(position) {
 // ---- what is shown ----
 
 function show() {
-    say('status', standing());
-    const { checked, refusal } = state.found;
-    element('status').classList.toggle('bad', refusal !== null || checked.some((answer) => answer.refusal !== null));
-    element('keys').replaceChildren(...state.keys.map(keyItem));
-    element('clear').hidden = state.keys.length === 0;
-    element('order').hidden = state.found.about === null || inOrder().every((key, place) => key === state.keys[place]);
-    const { board } = state.found;
-    for (const id of ['single-part', 'square-part', 'coalition-part', 'joined-part', 'legend', 'grid-help']) element(id).hidden = board === null;
+    const { keys, board, joined } = state.found;
+    document.body.dataset.state = keys.length === 0 ? 'empty' : joined === null ? 'waiting' : 'joined';
+    for (const id of ['result', 'keys-part']) element(id).hidden = keys.length === 0;
+    element('folded').hidden = board === null;
+    element('example-note').hidden = state.aside === null;
+    say('leave-example', state.aside?.length > 0 ? 'Back to your keys' : 'Close the example');
+    say('intake-title', joined === null ? 'Give the keys' : 'Give other keys');
+    showVerdict();
+    showKeys();
     showBoards();
     showShares();
+    showFingerprints();
 }
 
-function inOrder() {
-    const players = new Map(state.keys.map((key, place) => [key, state.found.checked[place].header?.player ?? Infinity]));
-    return [...state.keys].sort((one, other) => players.get(one) - players.get(other));
+/** The one sentence that a reader came for, and what has to stand beside it. */
+function verdict() {
+    const { keys, board, joined, missingWords, refusal } = state.found;
+    if (joined !== null) {
+        const looks = ['zero', 'piece'][state.pieces.length] ?? 'warning';
+        return { looks, words: joinedWords(joined, board, sensorOf), beside: sentence('caution') };
+    }
+    const wrong = keys.filter((key) => ['refused', 'conflict'].includes(key.state));
+    const [first] = wrong.filter((key) => key.state === 'conflict').concat(wrong);
+    if (first?.state === 'conflict') return { looks: 'warning', words: `${capital(first.words)}.`, beside: 'Remove the one that does not belong to the match.', refusal };
+    if (missingWords !== null) {
+        const beside = first === undefined ? 'The board appears when the keys of all players are here.' : `${first.from}: ${first.words}.`;
+        return { looks: first === undefined ? 'waiting' : 'warning', words: `${capital(missingWords)}.`, beside, refusal };
+    }
+    return { looks: 'warning', words: `${capital(first.words)}.`, beside: `It was read from ${first.from}.`, refusal: first.refusal };
+}
+
+function showVerdict() {
+    if (state.found.keys.length === 0) return;
+    const { looks, words, beside, refusal = null } = verdict();
+    element('verdict').className = `verdict ${looks}`;
+    element('board-part').className = looks;
+    document.body.dataset.looks = looks;
+    say('answer', words);
+    say('caution', beside);
+    element('refusal').hidden = refusal === null;
+    if (refusal !== null) element('refusal').querySelector('p').textContent = refusalWords(refusal);
+    const { board, players, keys } = state.found;
+    const here = players.filter((key) => key !== null).length;
+    const unfit = keys.filter((key) => ['refused', 'conflict', 'other'].includes(key.state)).length;
+    const count = board === null ? '' : here === board.players ? `${here === 2 ? 'Both' : `All ${WORDS.numbers[here]}`} keys are here.`
+        : `${capital(WORDS.numbers[here])} of ${WORDS.numbers[board.players]} keys ${here === 1 ? 'is' : 'are'} here.`;
+    say('standing', `${count}${unfit === 0 ? '' : ` ${capital(counted(unfit, 'key does', 'keys do'))} not fit.`}`.trim());
 }
 
 function showBoards() {
-    const { board, joined, pieces } = state.found;
-    say('board-summary', boardSummary());
-    element('pages').hidden = board === null || board.positions <= SQUARES_SHOWN;
+    const { board, joined } = state.found;
+    element('board-part').hidden = joined === null;
+    element('save-part').hidden = state.keys.length === 0;
+    element('save').hidden = joined === null;
+    element('print').hidden = joined === null;
     if (board === null) return;
+    element('sensors-switch').hidden = board.positions !== SENSORS;
+    element('pages').hidden = board.positions <= SQUARES_SHOWN;
     const last = Math.min(board.positions, state.first + SQUARES_SHOWN) - 1;
     const [from, to, all] = [state.first, last, board.positions].map((number) => number.toLocaleString('en'));
     say('range', `Squares ${from} to ${to} of ${all}`);
     element('earlier').disabled = state.first === 0;
     element('later').disabled = last + 1 === board.positions;
-    element('to-piece').hidden = pieces.length !== 1;
-    element('joined').hidden = joined === null;
-    const everybody = board.players === 2 ? 'Both' : `All ${NUMBERS[board.players]}`;
-    say('joined-words', joined === null ? whyNotJoined() : `${everybody} players\u2019 tables, laid together.`);
-    if (joined !== null) showTable('joined', joined, board, 'The joined board', pieces);
-    say('legend', `In each square: its position, its value in hexadecimal${board.valueBytes > 4 ? ' (the first two bytes)' : ''}${
-        board.positions === SENSORS ? ', and below it the number of the sensor that lies there' : ''}. ${
-        'The stronger its shade, the greater its first byte.'}`);
-    const holders = holdersOf(board);
-    element('player').replaceChildren(...holders.map(({ player }) =>
-        make('option', { value: String(player), selected: player === state.player }, `Player ${player}`)));
-    const holder = holders.find(({ player }) => player === state.player);
-    showTable('single', tableOf(holder.key), board, `The table of player ${state.player}`);
-    showCoalition(board, holders);
+    element('to-piece').hidden = state.pieces.length !== 1;
+    if (joined !== null) showTable('joined', joined, board, 'The board, all keys together', true);
+    showGroup(board);
 }
 
-function whyNotJoined() {
-    const { missing, refusal } = state.found;
-    if (missing.length > 0) return 'The keys of all players are needed.';
-    return refusal === null ? 'A key is refused, as said above.' : `Joining is refused with ${refusal.number}, as said above.`;
-}
-
-function boardSummary() {
-    const { board, joined, pieces } = state.found;
-    if (board === null) return 'It appears when the keys of all players are here.';
-    const grid = `${counted(board.positions, 'square')}, ${NUMBERS[board.players]} players, values of ${counted(board.valueBytes, 'byte')}.`;
-    return joined === null ? `${grid} The joined board appears when all keys are here and accepted.` : `${grid} ${pieceWords(board, joined, pieces)}`;
-}
-
-function showCoalition(board, holders) {
-    const members = holders.filter(({ player }) => state.coalition.has(player));
+function showGroup(board) {
+    const members = holders().filter(({ player }) => state.members.has(player));
     const focused = document.activeElement?.dataset?.member;
-    element('members').replaceChildren(...holders.map(({ player }) => make('label', {},
-        make('input', { type: 'checkbox', checked: state.coalition.has(player), onchange: (event) => changeCoalition(player, event.target.checked),
+    element('members').replaceChildren(...holders().map(({ player }) => make('label', {},
+        make('input', { type: 'checkbox', checked: state.members.has(player), onchange: (event) => changeMembers(player, event.target.checked),
             aria: { 'data-member': player } }), ` Player ${player}`)));
     if (focused !== undefined) element('members').querySelector(`[data-member="${focused}"]`)?.focus();
-    const allButOne = `${NUMBERS[board.players - 1]} of ${NUMBERS[board.players]} players`;
-    say('all-but-one', `${allButOne} ${board.players === 2 ? 'learns' : 'learn'}`);
-    element('coalition').hidden = members.length === 0;
+    say('all-but-one', `${WORDS.numbers[board.players - 1]} of ${WORDS.numbers[board.players]} players ${board.players === 2 ? 'learns' : 'learn'}`);
+    element('group').hidden = members.length === 0;
     const names = listed(members.map(({ player }) => player));
     const left = board.players - members.length;
-    say('coalition-words', members.length === 0 ? 'Nobody is chosen.'
-        : `${capital(NUMBERS[members.length])} of ${NUMBERS[board.players]} players: ${names}. ${left === 0
-            ? 'With everybody, it is the joined board.' : `${capital(NUMBERS[left])} ${left === 1 ? 'is' : 'are'} left out.`}`);
-    if (members.length === 0) return;
-    showTable('coalition', tableOfMembers(members), board, `The joined table of players ${names}`, left === 0 ? state.found.pieces : []);
+    say('group-words', members.length === 0 ? 'Nobody is chosen.'
+        : `${capital(WORDS.numbers[members.length])} of ${WORDS.numbers[board.players]} players: ${names}. ${left === 0
+            ? 'With everybody it is the board above.' : `${capital(WORDS.numbers[left])} ${left === 1 ? 'is' : 'are'} left out, and it looks like noise.`}`);
+    element('group').classList.toggle('piece', left === 0 && state.pieces.length === 1);
+    if (members.length > 0) showTable('group', tableOfMembers(members), board, `What players ${names} see together`, left === 0 && state.found.joined !== null);
 }
 
 /** The members' tables joined, worked out once for these keys. */
 function tableOfMembers(members) {
-    const keys = members.map(({ key }) => key.name).join();
-    if (state.together?.keys !== keys) state.together = { keys, table: joinTables(library, members.map(({ key }) => tableOf(key))) };
+    const keys = members.map(({ key }) => key.id).join();
+    if (state.together?.keys !== keys) state.together = { keys, table: joinTables(library, members.map(({ key }) => library.openAll(key.bytes))) };
     return state.together.table;
 }
 
-function changeCoalition(player, isMember) {
-    if (isMember) state.coalition.add(player);
-    else state.coalition.delete(player);
-    showCoalition(state.found.board, holdersOf(state.found.board));
+function changeMembers(player, isMember) {
+    if (isMember) state.members.add(player);
+    else state.members.delete(player);
+    showGroup(state.found.board);
 }
 
 function showShares() {
@@ -353,119 +360,187 @@ function showShares() {
     field.max = String(board.positions - 1);
     field.value = String(position);
     say('square-problem', '');
-    say('square-sensor', sensorWords(board, position).replace(', ', ''));
-    const holders = holdersOf(board);
-    const shares = holders.map(({ player, key }) => ({ player, share: library.openOne(key.bytes, position) }));
+    say('square-place', placeWords(position).replace(/^square \d+ /, ''));
+    const here = holders();
+    const shares = here.map(({ player, key }) => ({ player, share: library.openOne(key.bytes, position) }));
     const row = (name, bytes) => make('tr', {}, make('th', { scope: 'row' }, name), make('td', {}, hexadecimal(bytes)));
-    const isWhole = holders.length === board.players;
+    const isWhole = here.length === board.players;
     const value = isWhole ? library.joinShares({ ...board, shares: together(shares.map(({ share }) => share)) }) : null;
     element('shares').replaceChildren(
-        make('caption', {}, `Square ${position}${sensorWords(board, position)}`),
-        make('thead', {}, make('tr', {}, make('th', { scope: 'col' }, 'Whose'), make('th', { scope: 'col' }, 'Share, in hexadecimal'))),
+        make('caption', {}, capital(placeWords(position))),
+        make('thead', {}, make('tr', {}, make('th', { scope: 'col' }, 'Whose key'), make('th', { scope: 'col' }, 'What it says, in hexadecimal'))),
         make('tbody', {}, ...shares.map(({ player, share }) => row(`Player ${player}`, share))),
-        ...(isWhole ? [make('tfoot', {}, row('Joined', value))] : []));
-    say('square-words', isWhole ? `The shares of square ${position} join to ${hexadecimal(value)}.`
-        : `${counted(holders.length, 'share')} of ${board.players} on square ${position}. All are needed to join them.`);
+        ...(isWhole ? [make('tfoot', {}, row('Together', value))] : []));
+    say('square-words', isWhole ? `Together they are ${hexadecimal(value)}.` : `${capital(WORDS.numbers[here.length])} of ${WORDS.numbers[board.players]} keys. All are needed.`);
+}
+
+function showFingerprints() {
+    const rows = holders().map(({ player, key }) =>
+        make('tr', {}, make('th', { scope: 'row' }, `Player ${player}`), make('td', {}, key.fingerprint)));
+    element('fingerprints').hidden = rows.length === 0;
+    element('fingerprint-table').replaceChildren(make('table', { className: 'plain' },
+        make('caption', {}, 'Fingerprints of the keys (SHA-256)'), make('tbody', {}, ...rows)));
 }
 
 // ---- what a reader does ----
 
-/** Reads keys from somewhere; words for a person where they cannot be read. */
-async function read(work) {
-    say('read-problem', '');
-    try {
-        await work();
-    } catch (error) {
-        if (!(error instanceof Unreadable)) throw error;
-        say('read-problem', error.message);
-    }
+/** Takes in what was found somewhere, and says what could not be read beside it. */
+function take(found) {
+    element('problems').replaceChildren(...found.flatMap(({ problems }) => problems).map((words) => make('li', {}, words)));
+    const keys = found.flatMap((one) => one.keys);
+    addKeys(keys);
+    if (element('problems').childElementCount > 0) element('intake').open = true;
+    return keys.length > 0;
 }
 
-function addText(text) {
-    const parts = keysOfText(library, text);
-    if (parts.length === 0) throw new Unreadable('There is nothing to read yet.');
-    addKeys(parts, 'pasted');
-    element('paste').value = '';
+function takeText(text) {
+    if (take([keysOfText(library, text)])) element('paste').value = '';
 }
 
-async function addFiles(files) {
+async function takeFiles(files) {
     const byName = [...files].sort((one, other) => one.name.localeCompare(other.name, 'en', { numeric: true }));
+    const found = [];
     for (const file of byName) {
-        if (file.size > MOST_FILE_BYTES) throw new Unreadable(`${file.name} is too long: no board has so many bytes of keys.`);
-        addKeys(keysOfFile(library, new Uint8Array(await file.arrayBuffer())), file.name);
+        try {
+            found.push(keysOfFile(library, new Uint8Array(await file.slice(0, MOST_FILE_BYTES + 1).arrayBuffer()), file.name));
+        } catch {
+            found.push({ keys: [], problems: [`${file.name} cannot be read`] });
+        }
     }
+    take(found);
 }
 
-function showExample(dealing, from) {
-    state.keys = [];
+function showExample(dealing, from, words) {
+    state.aside ??= state.keys;
+    say('example-words', words);
+    state.keys = keysApart(library, library.deal(dealing)).map((bytes) => named({ bytes, from, label: null }));
     state.chosen = null;
-    addKeys(keysApart(library, library.deal(dealing)), from);
+    element('problems').replaceChildren();
+    keysChanged();
+    toAnswer();
 }
 
-function drawnSpringBoard() {
-    const board = { players: 6, positions: SENSORS, width: library.chooseWidth({ players: 6, positions: SENSORS }), valueBytes: 1 };
-    return randomDealing(board, (length) => {
-        const bytes = new Uint8Array(length);
-        // A browser gives at most 65,536 random bytes at once.
-        for (let at = 0; at < length; at += 65536) crypto.getRandomValues(bytes.subarray(at, at + 65536));
-        return bytes;
-    });
+function leaveExample() {
+    state.keys = state.aside;
+    state.aside = null;
 }
 
-element('paste-form').addEventListener('submit', (event) => {
-    event.preventDefault();
-    read(() => addText(element('paste').value));
-});
-element('paste').addEventListener('paste', () => setTimeout(() => read(() => addText(element('paste').value))));
-element('files').addEventListener('change', async (event) => {
-    await read(() => addFiles(event.target.files));
-    event.target.value = '';
-});
-document.addEventListener('dragover', (event) => {
-    event.preventDefault();
-    element('drop').classList.add('over');
-});
-document.addEventListener('dragleave', () => element('drop').classList.remove('over'));
-document.addEventListener('drop', (event) => {
-    event.preventDefault();
-    element('drop').classList.remove('over');
-    const { files } = event.dataTransfer;
-    read(() => (files.length > 0 ? addFiles(files) : addText(event.dataTransfer.getData('text'))));
-});
-element('printed').addEventListener('click', () => showExample(printedDeal(), 'the printed deal'));
-element('spring').addEventListener('click', () => showExample(drawnSpringBoard(), 'a drawn dealing'));
-element('clear').addEventListener('click', () => {
-    state.keys = [];
-    keysChanged();
-    element('status').focus();
-});
-element('sort').addEventListener('click', () => {
-    state.keys = inOrder();
-    keysChanged();
-    element('status').focus();
-});
-element('player').addEventListener('change', (event) => {
-    state.player = Number(event.target.value);
-    showBoards();
-});
-element('earlier').addEventListener('click', () => turnTo(state.first - SQUARES_SHOWN));
-element('later').addEventListener('click', () => turnTo(state.first + SQUARES_SHOWN));
-element('to-piece').addEventListener('click', () => chooseSquare(state.found.pieces[0]));
-element('square').addEventListener('change', (event) => {
-    const position = event.target.value.trim() === '' ? NaN : Number(event.target.value);
-    const { key } = holdersOf(state.found.board)[0];
-    if (!Number.isInteger(position) || position < 0 || position > 0xFFFFFFFF) {
-        say('square-problem', 'A square is a whole number from 0 on.');
-        return;
-    }
-    const { refusal } = answerOf(() => library.openOne(key.bytes, position));
-    if (refusal === null) chooseSquare(position);
-    else say('square-problem', `Refused ${refusal.number}: ${refusal.words}.`);
-});
+function systemBytes(length) {
+    const bytes = new Uint8Array(length);
+    // A browser gives at most 65,536 random bytes at once.
+    for (let at = 0; at < length; at += 65536) crypto.getRandomValues(bytes.subarray(at, at + 65536));
+    return bytes;
+}
+
+function springBoard(players) {
+    const board = { players, positions: SENSORS, width: library.chooseWidth({ players, positions: SENSORS }), valueBytes: 1 };
+    return randomDealing(board, systemBytes);
+}
+
+function save() {
+    const text = matchText(state.found.players.map(({ bytes }) => bytes));
+    const link = make('a', { href: URL.createObjectURL(new Blob([text], { type: 'text/plain' })), download: 'match.txt' });
+    link.click();
+    setTimeout(() => URL.revokeObjectURL(link.href), 60000);
+}
 
 function turnTo(first) {
     state.first = first;
     showBoards();
 }
 
+function shape(tag, attributes) {
+    const made = document.createElementNS('http://www.w3.org/2000/svg', tag);
+    for (const [name, value] of Object.entries(attributes)) made.setAttribute(name, value);
+    return made;
+}
+
+/** The picture on the empty page: three players' noise above, and below what they are together; a drawn board of 24 squares. */
+function drawPicture() {
+    const [lines, along, side] = [4, 6, 12];
+    const dealing = randomDealing({ players: 3, positions: lines * along, width: along, valueBytes: 1 }, systemBytes);
+    const keys = keysApart(library, library.deal(dealing));
+    const board = (table, left, top, size, lookOf) => Array.from(table, (byte, position) => shape('rect', { ...lookOf(byte, position), rx: 2,
+        x: left + (position % along) * size + 1, y: top + Math.floor(position / along) * size + 1, width: size - 2, height: size - 2 }));
+    const picture = element('picture');
+    keys.forEach((key, player) => picture.append(...board(library.openAll(key), player * 97, 0, side,
+        (byte) => ({ class: 'noise', 'fill-opacity': 0.12 + byte / 330 }))));
+    picture.append(shape('rect', { class: 'ground', x: 72, y: 67, width: 6 * 20 + 6, height: 4 * 20 + 6, rx: 5 }),
+        ...board(library.joinKeys(together(keys)), 75, 70, 20, (byte) => ({ class: byte === 0 ? 'zero' : 'piece' })));
+    for (const [sign, x, y] of [['+', 84, 30], ['+', 181, 30], ['=', 50, 117]]) {
+        const word = shape('text', { x, y, 'text-anchor': 'middle' });
+        word.textContent = sign;
+        picture.append(word);
+    }
+}
+
+element('paste-form').addEventListener('submit', (event) => {
+    event.preventDefault();
+    takeText(element('paste').value);
+});
+element('paste').addEventListener('paste', () => setTimeout(() => takeText(element('paste').value)));
+element('files').addEventListener('change', async (event) => {
+    await takeFiles(event.target.files);
+    event.target.value = '';
+});
+document.addEventListener('dragover', (event) => {
+    event.preventDefault();
+    document.body.classList.add('over');
+});
+document.addEventListener('dragleave', (event) => {
+    if (event.relatedTarget === null) document.body.classList.remove('over');
+});
+document.addEventListener('drop', (event) => {
+    event.preventDefault();
+    document.body.classList.remove('over');
+    const { files } = event.dataTransfer;
+    if (files.length > 0) takeFiles(files);
+    else takeText(event.dataTransfer.getData('text'));
+});
+element('spring').addEventListener('click', () => showExample(springBoard(4), 'dealt here', DEALT_HERE));
+element('spring-six').addEventListener('click', () => showExample(springBoard(6), 'dealt here', DEALT_HERE));
+element('small').addEventListener('click', () => showExample(printedDeal(), 'the small board', 'An example: a board of six squares for two players, always the same.'));
+element('leave-example').addEventListener('click', () => {
+    leaveExample();
+    keysChanged();
+    (state.keys.length > 0 ? element('answer') : element('spring')).focus();
+});
+element('save').addEventListener('click', save);
+element('print').addEventListener('click', () => window.print());
+element('clear').addEventListener('click', () => {
+    state.aside = null;
+    state.keys = [];
+    element('problems').replaceChildren();
+    keysChanged();
+    element('files').focus();
+});
+// Paper has the fingerprints whole, whether or not they are unfolded on the screen.
+let unfolded = false;
+window.addEventListener('beforeprint', () => {
+    unfolded = element('fingerprints').open;
+    element('fingerprints').open = true;
+});
+window.addEventListener('afterprint', () => {
+    element('fingerprints').open = unfolded;
+});
+element('sensors').addEventListener('change', (event) => {
+    state.sensors = event.target.checked;
+    showBoards();
+});
+element('earlier').addEventListener('click', () => turnTo(state.first - SQUARES_SHOWN));
+element('later').addEventListener('click', () => turnTo(state.first + SQUARES_SHOWN));
+element('to-piece').addEventListener('click', () => chooseSquare(state.pieces[0]));
+element('square').addEventListener('change', (event) => {
+    const position = event.target.value.trim() === '' ? NaN : Number(event.target.value);
+    if (!Number.isInteger(position) || position < 0 || position > 0xFFFFFFFF) {
+        say('square-problem', 'A square is a whole number from 0 on.');
+        return;
+    }
+    const { refusal } = answerOf(() => library.openOne(holders()[0].key.bytes, position));
+    if (refusal === null) chooseSquare(position);
+    else say('square-problem', `This board has squares 0 to ${state.found.board.positions - 1}. ${refusalWords(refusal)}`);
+});
+
+drawPicture();
 keysChanged();
+document.body.dataset.ready = 'yes';

@@ -1,14 +1,17 @@
-// Tests of the built page in a headless Chromium: the printed deal, the spring board with six players, damaged keys, keys in the wrong order,
-// each way to give keys, large boards, keyboard, screen reader, light and dark, a phone's window. What is shown is held against the answers of
-// nosingginger.mjs in node. Pictures go to target/web/pictures. Assumes that web/build has run.
+// Tests of the built page in a headless Chromium, as a club's players use it: the empty page, examples, each way to give keys, keys missing, damaged,
+// changed, of two dealings, of two boards, large boards, keyboard, screen reader, paper, light and dark, a phone's window. What is shown is held
+// against the answers of nosingginger.mjs in node. Pictures go to target/web/pictures; --keep makes one of them README's, which carries a digest of
+// the page's sources so that an old one is noticed. Assumes that web/build has run.
 import assert from 'node:assert/strict';
-import { mkdirSync, readFileSync, writeFileSync } from 'node:fs';
+import { existsSync, mkdirSync, readFileSync, rmSync, writeFileSync } from 'node:fs';
 import { after, test } from 'node:test';
 import { fileURLToPath } from 'node:url';
 import { openBrowser } from './chromium.mjs';
 import { randomDealing } from './draw.mjs';
-import { hexadecimal, joinTables, keysApart, printedDeal } from './match.mjs';
+import { fingerprint } from './fingerprint.mjs';
+import { hexadecimal, joinTables, keysApart, keysOfText, matchText, printedDeal, sentence, squareWords } from './match.mjs';
 import { load, REFUSALS } from './nosingginger.mjs';
+import { pageDigest, withWords, wordsIn } from './picture.mjs';
 import { sameEachTime } from './random.mjs';
 
 const target = new URL('../target/', import.meta.url);
@@ -21,272 +24,442 @@ const library = await load(new URL('targets/wasm32/nosingginger.wasm', target));
 const browser = openBrowser();
 after(() => browser.close());
 
-const PHONE = { width: 360, height: 740, phone: true };
-const OPENING = 'The library is being opened.';
+const DESK = { width: 1280, height: 900 };
+const PHONE = { width: 390, height: 844, phone: true };
 
 /** A test on a newly opened page with the library open, on which no script fails and the browser has nothing to complain of. */
-function onPage(name, work, look) {
+function onPage(name, work, look = DESK) {
     test(name, { timeout: 60000 }, async () => {
         const page = await browser.open(place, look);
-        await page.until((words) => document.getElementById('status').textContent !== words, OPENING);
+        await page.until(() => document.body.dataset.ready === 'yes');
         await work(page);
         assert.deepEqual(page.complaints, []);
         assert.deepEqual(page.requests, [place.href]);
         assert.ok(await page.run(() => document.documentElement.scrollWidth <= innerWidth), 'the page is wider than its window');
-        assert.deepEqual(await page.run(() => [...document.querySelectorAll('.squares td')]
+        assert.deepEqual(await page.run(() => [...document.querySelectorAll('.squares td[data-position]')].filter((cell) => cell.checkVisibility())
             .filter((cell) => cell.scrollWidth > cell.clientWidth || cell.scrollHeight > cell.clientHeight).map((cell) => cell.innerText)), []);
         await page.close();
     });
 }
 
-function springDealing(players = 6) {
-    return randomDealing({ players, positions: 72, width: library.chooseWidth({ players, positions: 72 }), valueBytes: 1 }, sameEachTime(players));
+function springDealing(players = 6, start = players) {
+    return randomDealing({ players, positions: 72, width: library.chooseWidth({ players, positions: 72 }), valueBytes: 1 }, sameEachTime(start));
 }
+
+const springKeys = (players, start) => keysApart(library, library.deal(springDealing(players, start)));
 
 function stored(name, bytes) {
     writeFileSync(`${files}${name}`, bytes);
     return `${files}${name}`;
 }
 
-const words = (number) => REFUSALS[number - 1].words;
-const keysShown = (page) => page.run(() => [...document.querySelectorAll('#keys li')].map((item) => ({
-    accepted: item.className === 'accepted',
-    answer: item.querySelector('.answer').textContent,
-    numbers: [...item.querySelectorAll('dd')].map((number) => number.textContent.replace(',', '')).join(' '),
-})));
-const isShown = (page, selector) => page.run((name) => document.querySelector(name).checkVisibility(), selector);
-const labels = (page, id) => page.run((name) => [...document.querySelectorAll(`#${name} td`)].map((cell) => cell.getAttribute('aria-label')), id);
-const lines = (page, id) => page.run((name) => [...document.querySelectorAll(`#${name} tr`)].map((line) => line.querySelectorAll('td').length), id);
-const piecesShown = (page, id) => page.run((name) =>
-    [...document.querySelectorAll(`#${name} td.piece`)].map((cell) => Number(cell.dataset.position)), id);
-const sharesShown = (page) => page.run(() =>
-    [...document.querySelectorAll('#shares tbody tr, #shares tfoot tr')].map((row) => row.innerText.split(/\s*\t\s*/)));
+const changed = (key, at, by = 1) => key.map((byte, place) => (place === at ? byte ^ by : byte));
 const sensors = new Map(Array.from({ length: 72 }, (_, sensor) => [library.sensorPosition(sensor), sensor]));
+const inWords = (position, board) => squareWords(position, board.positions === 72 ? sensors.get(position) : undefined);
+const capital = (words) => words[0].toUpperCase() + words.slice(1);
 
-/** What the squares of a table must say. */
-function squareLabels(table, { positions, valueBytes }, pieces = [], [first, last] = [0, positions]) {
+/** What the page must say of a dealing whose keys are all here. */
+function pieceWords(dealing) {
+    return sentence('piece', { place: inWords(dealing.point, dealing), value: hexadecimal(dealing.value) });
+}
+
+const refusalWords = (number) => {
+    const { name, words } = REFUSALS[number - 1];
+    return `Refusal ${number}, ${name.replace('REFUSED_', '')}: ${words}.`;
+};
+const answer = (page) => page.text('#answer');
+const keyLines = (page) => page.run(() => [...document.querySelectorAll('#keys li')].map((item) =>
+    (item.querySelector('summary') ?? item).innerText.replace(/\s+/g, ' ').trim()));
+const keyStates = (page) => page.run(() => [...document.querySelectorAll('#keys li')].map((item) => item.className));
+const problems = (page) => page.run(() => [...document.querySelectorAll('#problems li')].map((item) => item.textContent));
+const isShown = (page, selector) => page.run((name) => document.querySelector(name).checkVisibility(), selector);
+const labels = (page, id) => page.run((name) =>
+    [...document.querySelectorAll(`#${name} td[data-position]`)].map((cell) => cell.getAttribute('aria-label')), id);
+const looking = (page, id, look) => page.run((name, kind) =>
+    [...document.querySelectorAll(`#${name} td.${kind}`)].map((cell) => Number(cell.dataset.position)), id, look);
+const sharesShown = (page) => page.run(() =>
+    [...document.querySelectorAll('#shares tbody tr, #shares tfoot tr')].map((row) => [...row.children].map((cell) => cell.textContent)));
+const open = (page, id) => page.run((name) => { document.getElementById(name).open = true; }, id);
+
+/** Gives files, and waits until the page has as many keys in its list. */
+async function give(page, given, many) {
+    await page.giveFiles('#files', given);
+    await page.until((count) => document.querySelectorAll('#keys li').length === count, many);
+}
+
+/** What the squares of a table must be called. */
+function squareLabels(table, board, isJoined, piece = null, [first, last] = [0, board.positions]) {
     return Array.from({ length: last - first }, (_, index) => {
         const position = first + index;
-        const sensor = positions === 72 ? `, sensor ${sensors.get(position)}` : '';
-        const value = hexadecimal(table.subarray(position * valueBytes, (position + 1) * valueBytes));
-        return `Square ${position}${sensor}, value ${value}${pieces.includes(position) ? ', the piece' : ''}`;
+        const value = table.subarray(position * board.valueBytes, (position + 1) * board.valueBytes);
+        const isZero = isJoined && value.every((byte) => byte === 0);
+        return `${capital(inWords(position, board))}: ${isZero ? 'zero' : `value ${hexadecimal(value)}${position === piece ? ', the piece' : ''}`}`;
     });
 }
 
-onPage('the printed deal', async (page) => {
-    assert.equal(await page.text('#status'), 'No keys are here yet.');
-    assert.equal(await isShown(page, '#joined-part'), false);
-    await page.click('#printed');
+function joinedTable(dealing) {
+    const table = new Uint8Array(dealing.positions * dealing.valueBytes);
+    table.set(dealing.value, dealing.point * dealing.valueBytes);
+    return table;
+}
+
+for (const [size, look] of [['1280', DESK], ['390', PHONE]]) {
+    onPage(`${size} pixels: the empty page says what a key is and where it comes from`, async (page) => {
+        assert.equal(await isShown(page, '#result'), false);
+        assert.equal(await isShown(page, '#keys-part'), false);
+        for (const words of ['What is a key?', 'Where do keys come from?', 'No keys at hand?']) {
+            assert.ok((await page.run(() => document.body.innerText)).includes(words), words);
+        }
+        assert.equal(await page.run(() => document.querySelectorAll('#picture .piece').length), 1);
+        await page.screenshot(`${pictures}${size}-empty.png`);
+    }, look);
+
+    onPage(`${size} pixels: after loading, the answer is on the first screen`, async (page) => {
+        const dealing = springDealing(4, 305);
+        await give(page, [stored('match.txt', matchText(keysApart(library, library.deal(dealing))))], 4);
+        assert.equal(await answer(page), pieceWords(dealing));
+        const seen = await page.run(() => ['#answer', '#caution', '#joined td.piece'].map((name) => {
+            const { top, bottom } = document.querySelector(name).getBoundingClientRect();
+            return top >= 0 && bottom <= innerHeight;
+        }));
+        assert.deepEqual(seen, [true, true, true]);
+        assert.equal(await page.run(() => document.activeElement.id), 'answer');
+        await page.settled();
+        await page.screenshot(`${pictures}${size}-loaded.png`);
+    }, look);
+
+    onPage(`${size} pixels: six players`, async (page) => {
+        await give(page, springKeys(6).map((key, player) => stored(`player-${player}.key`, key)), 6);
+        assert.equal(await page.text('#standing'), 'All six keys are here.');
+        await page.settled();
+        await page.screenshot(`${pictures}${size}-six.png`);
+    }, look);
+
+    onPage(`${size} pixels: a damaged key`, async (page) => {
+        const keys = springKeys(4);
+        await give(page, keys.map((key, player) => stored(`player-${player}.key`, player === 1 ? changed(key, 5) : key)), 5);
+        assert.equal(await answer(page), 'Player 1\u2019s key is missing.');
+        assert.equal(await page.text('#caution'), `player-1.key: ${sentence('damaged')}.`);
+        await page.screenshot(`${pictures}${size}-damaged.png`);
+    }, look);
+
+    onPage(`${size} pixels: keys of two dealings look like no success`, async (page) => {
+        const keys = springKeys(4).map((key, player) => (player === 3 ? springKeys(4, 77)[3] : key));
+        await give(page, keys.map((key, player) => stored(`player-${player}.key`, key)), 4);
+        const count = library.joinKeys(Buffer.concat(keys)).filter((byte) => byte !== 0).length;
+        assert.equal(await answer(page), sentence('several', { count }));
+        assert.deepEqual(await page.run(() => [document.getElementById('verdict').className, document.querySelectorAll('main .piece').length,
+            document.querySelectorAll('#joined .wrong').length]), ['verdict warning', 0, count]);
+        const colours = await page.run(() => ['verdict', 'answer'].map((id) => getComputedStyle(document.getElementById(id)).color));
+        assert.notEqual(colours[1], colours[0]);
+        await page.screenshot(`${pictures}${size}-several.png`);
+    }, look);
+}
+
+onPage('the small board', async (page) => {
+    await page.click('#small');
     const dealing = printedDeal();
     const keys = keysApart(library, library.deal(dealing));
-    assert.equal(await page.text('#status'), '2 keys, all accepted and joined. The piece lies on square 4. Its value is A5.');
-    assert.deepEqual(await keysShown(page), [0, 1].map((player) => ({ accepted: true, answer: 'Accepted', numbers: `2 ${player} 6 4 1` })));
-    assert.deepEqual(await labels(page, 'joined'), squareLabels(Uint8Array.of(0, 0, 0, 0, 0xA5, 0), dealing, [4]));
-    assert.deepEqual(await piecesShown(page, 'joined'), [4]);
-    assert.deepEqual(await labels(page, 'single'), squareLabels(library.openAll(keys[0]), dealing));
+    assert.equal(await answer(page), 'The piece lies on square 4 (line 0, column 4). Its value is A5.');
+    assert.equal(await page.text('#caution'), sentence('caution'));
+    assert.deepEqual(await keyLines(page), keys.map((key, player) => `Player ${player} \u2713 fits the small board ${fingerprint(key).slice(0, 4)}\u2026`));
+    assert.deepEqual(await labels(page, 'joined'), squareLabels(joinedTable(dealing), dealing, true, 4));
+    assert.deepEqual(await looking(page, 'joined', 'piece'), [4]);
+    assert.equal(await isShown(page, '#sensors-switch'), false);
     assert.deepEqual(await sharesShown(page), [
-        ...keys.map((key, player) => [`Player ${player}`, hexadecimal(library.openOne(key, 4))]), ['Joined', 'A5']]);
-    await page.screenshot(`${pictures}printed-deal.png`);
+        ...keys.map((key, player) => [`Player ${player}`, hexadecimal(library.openOne(key, 4))]), ['Together', 'A5']]);
+    assert.deepEqual(await labels(page, 'group'), squareLabels(library.openAll(keys[0]), dealing, false));
 });
 
-onPage('the spring board with six players, from six files', async (page) => {
+onPage('the spring board with six players: headings, sensors, shares, groups', async (page) => {
     const dealing = springDealing();
     const keys = keysApart(library, library.deal(dealing));
-    await page.giveFiles('#files', keys.map((key, player) => stored(`player-${player}.key`, key)));
-    await page.until(() => document.querySelectorAll('#keys li').length === 6);
-    const value = hexadecimal(dealing.value);
-    assert.equal(await page.text('#status'), `6 keys, all accepted and joined. The piece lies on square ${dealing.point}, sensor ${
-        sensors.get(dealing.point)}. Its value is ${value}.`);
-    assert.deepEqual(await lines(page, 'joined'), Array(9).fill(8));
-    const joined = new Uint8Array(72);
-    joined[dealing.point] = dealing.value[0];
-    assert.deepEqual(await labels(page, 'joined'), squareLabels(joined, dealing, [dealing.point]));
+    const joined = joinedTable(dealing);
+    await give(page, keys.map((key, player) => stored(`player-${player}.key`, key)), 6);
+    assert.equal(await answer(page), pieceWords(dealing));
+    assert.deepEqual(await labels(page, 'joined'), squareLabels(joined, dealing, true, dealing.point));
+    assert.deepEqual(await page.run(() => [...document.querySelectorAll('#joined thead th:not(.corner)')].map((cell) => cell.textContent)), [...'01234567']);
+    assert.deepEqual(await page.run(() => [...document.querySelectorAll('#joined tbody th')].map((cell) => cell.textContent)), [...'012345678']);
+    const shown = () => page.run(() => [...document.querySelectorAll('#joined td[data-position]')].map((cell) => cell.innerText.replace(/\s+/g, ' ')));
+    assert.deepEqual(await shown(), [...joined].map((byte) => (byte === 0 ? '\u00B7' : hexadecimal([byte]))));
+    await page.click('#sensors');
+    assert.deepEqual(await shown(), [...joined].map((byte, position) => `${byte === 0 ? '\u00B7' : hexadecimal([byte])} ${sensors.get(position)}`));
     const tables = keys.map((key) => library.openAll(key));
-    for (const player of [0, 5, 3]) {
-        await page.run((chosen) => {
-            const select = document.getElementById('player');
-            select.value = String(chosen);
-            select.dispatchEvent(new Event('change'));
-        }, player);
-        assert.deepEqual(await labels(page, 'single'), squareLabels(tables[player], dealing));
-    }
     // Five by themselves, then two, then nobody, then everybody.
-    assert.equal(await page.text('#coalition-words'), 'Five of six players: 0, 1, 2, 3 and 4. One is left out.');
-    assert.deepEqual(await labels(page, 'coalition'), squareLabels(joinTables(library, tables.slice(0, 5)), dealing));
-    assert.match(await page.text('.aside'), /five of six players learn nothing cannot be seen in a picture/);
-    assert.match(await page.text('.aside'), /A theorem shows it, and it speaks of freely drawn rows/);
+    await open(page, 'group-part');
+    assert.equal(await page.text('#group-words'), 'Five of six players: 0, 1, 2, 3 and 4. One is left out, and it looks like noise.');
+    assert.deepEqual(await labels(page, 'group'), squareLabels(joinTables(library, tables.slice(0, 5)), dealing, false));
+    assert.match(await page.text('#group-part .aside'), /^That five of six players learn nothing of the piece cannot be seen in a picture/);
+    assert.match(await page.text('#group-part .aside'), /A theorem shows it, for rows that are drawn freely/);
     for (const player of [0, 1, 2]) await page.click(`[data-member="${player}"]`);
-    assert.equal(await page.text('#coalition-words'), 'Two of six players: 3 and 4. Four are left out.');
-    assert.deepEqual(await labels(page, 'coalition'), squareLabels(tables[3].map((byte, position) => byte ^ tables[4][position]), dealing));
+    assert.equal(await page.text('#group-words'), 'Two of six players: 3 and 4. Four are left out, and it looks like noise.');
+    assert.deepEqual(await labels(page, 'group'), squareLabels(tables[3].map((byte, position) => byte ^ tables[4][position]), dealing, false));
     for (const player of [3, 4]) await page.click(`[data-member="${player}"]`);
-    assert.equal(await page.text('#coalition-words'), 'Nobody is chosen.');
-    assert.equal(await isShown(page, '#coalition'), false);
+    assert.equal(await page.text('#group-words'), 'Nobody is chosen.');
+    assert.equal(await isShown(page, '#group'), false);
     for (const player of [0, 1, 2, 3, 4, 5]) await page.click(`[data-member="${player}"]`);
-    assert.deepEqual(await labels(page, 'coalition'), squareLabels(joined, dealing, [dealing.point]));
+    assert.deepEqual(await labels(page, 'group'), squareLabels(joined, dealing, true, dealing.point));
     // The shares of any square.
-    await page.click('#single [data-position="15"]');
-    assert.equal(await page.text('#shares caption'), 'Square 15, sensor 8');
+    await page.click('#group [data-position="15"]');
+    assert.equal(await page.text('#shares caption'), 'Square 15 (line 1, column 7, sensor 8)');
     assert.deepEqual(await sharesShown(page), [...tables.map((table, player) => [`Player ${player}`, hexadecimal(table.subarray(15, 16))]),
-        ['Joined', hexadecimal(joined.subarray(15, 16))]]);
-    await page.run(() => {
+        ['Together', hexadecimal(joined.subarray(15, 16))]]);
+    const ask = (value) => page.run((given) => {
         const field = document.getElementById('square');
-        field.value = '72';
+        field.value = given;
         field.dispatchEvent(new Event('change'));
-    });
-    assert.equal(await page.text('#square-problem'), `Refused 14: ${words(14)}.`);
-    await page.screenshot(`${pictures}spring-board.png`);
+    }, value);
+    await ask('72');
+    assert.equal(await page.text('#square-problem'), `This board has squares 0 to 71. ${refusalWords(14)}`);
+    await ask('');
+    assert.equal(await page.text('#square-problem'), 'A square is a whole number from 0 on.');
 });
 
-onPage('keys that come one after another: what is missing is said', async (page) => {
-    const keys = keysApart(library, library.deal(springDealing()));
-    await page.giveFiles('#files', [4, 0, 3].map((player) => stored(`later-${player}.key`, keys[player])));
-    await page.until(() => document.querySelectorAll('#keys li').length === 3);
-    assert.equal(await page.text('#status'), '3 keys of 6, all accepted. Missing: players 1, 2 and 5.');
-    assert.equal(await isShown(page, '#joined'), false);
-    assert.equal((await labels(page, 'single')).length, 72);
-    assert.equal(await page.text('#square-words'), '3 shares of 6 on square 0. All are needed to join them.');
+onPage('two bytes changed in a published key move the piece: the caution stands beside it, and the fingerprint differs', async (page) => {
+    const dealing = springDealing(4);
+    const keys = keysApart(library, library.deal(dealing));
+    const { width } = dealing;
+    // A column's word is XORed into every grid row in which the key marks the column. Where it marks one in the piece's grid row alone, the value
+    // taken out of one cell of its word and put into another moves the piece.
+    const [from, to] = [dealing.point % width, (dealing.point + 7) % width];
+    const moving = (key, column) => {
+        const word = key.length - (8 - column) * width;
+        return changed(changed(key, word + from, dealing.value[0]), word + to, dealing.value[0]);
+    };
+    const tries = keys.flatMap((key, holder) => Array.from({ length: 8 }, (_, column) => ({ holder, moved: moving(key, column) })));
+    const { holder, moved } = tries.find((one) =>
+        library.joinKeys(Buffer.concat(keys.map((key, player) => (player === one.holder ? one.moved : key)))).filter((byte) => byte !== 0).length === 1);
+    await give(page, keys.map((key, player) => stored(`player-${player}.key`, player === holder ? moved : key)), 4);
+    const wrong = dealing.point - from + to;
+    assert.equal(await answer(page), pieceWords({ ...dealing, point: wrong }));
+    assert.equal(await page.text('#caution'), sentence('caution'));
+    assert.ok(await isShown(page, '#caution'));
+    const lines = await keyLines(page);
+    keys.forEach((key, player) => assert.equal(lines[player].endsWith(` ${fingerprint(key).slice(0, 4)}\u2026`), player !== holder));
+    await open(page, 'fingerprints');
+    const whole = await page.run(() => [...document.querySelectorAll('#fingerprint-table td')].map((cell) => cell.textContent));
+    assert.deepEqual(whole, keys.map((key, player) => fingerprint(player === holder ? moved : key)));
 });
 
-onPage('damaged keys: the number and the words stand beside the key', async (page) => {
-    const keys = keysApart(library, library.deal(springDealing(3)));
-    const damaged = [[13, keys[1].map((byte, at) => (at === 5 ? byte ^ 1 : byte))], [12, keys[1].subarray(0, keys[1].length - 1)],
-        [10, keys[1].map((byte, at) => (at < 3 ? 0xFF : byte))], [1, keys[1].map((byte, at) => (at === 0 ? 7 : byte))],
-        [11, keys[1].map((byte, at) => (at === 1 ? 3 : byte))]];
-    for (const [number, key] of damaged) {
-        await page.giveFiles('#files', [stored('a.key', keys[0]), stored('b.key', key), stored('c.key', keys[2])]);
-        await page.until(() => document.querySelectorAll('#keys li').length === 3);
-        const shown = await keysShown(page);
-        assert.deepEqual(shown.map(({ accepted }) => accepted), [true, false, true]);
-        assert.equal(shown[1].answer, `Refused ${number} ${words(number)}.`);
-        assert.equal(shown[1].numbers, '');
-        assert.equal(await page.text('#status'), `The key at place 1 is refused with ${number}: ${words(number)}.`);
-        assert.equal(await isShown(page, '#joined'), false);
-        if (number === 13) await page.screenshot(`${pictures}damaged-key.png`);
+onPage('keys that come one after another: what is missing is said, and its number is folded', async (page) => {
+    const keys = springKeys(6);
+    await give(page, [4, 0, 3].map((player) => stored(`later-${player}.key`, keys[player])), 6);
+    assert.equal(await answer(page), 'The keys of players 1, 2 and 5 are missing.');
+    assert.equal(await page.text('#standing'), 'Three of six keys are here.');
+    assert.deepEqual(await keyStates(page), ['used', 'missing', 'missing', 'used', 'used', 'missing']);
+    assert.equal(await isShown(page, '#board-part'), false);
+    assert.equal(await isShown(page, '#refusal p'), false);
+    assert.equal(await page.text('#refusal p'), refusalWords(12));
+    await open(page, 'square-part');
+    assert.equal(await page.text('#square-words'), 'Three of six keys. All are needed.');
+    const says = (words) => page.until((wanted) => document.getElementById('answer').textContent === wanted, words);
+    await page.giveFiles('#files', [1, 2].map((player) => stored(`later-${player}.key`, keys[player])));
+    await says('Player 5\u2019s key is missing.');
+    await page.giveFiles('#files', [stored('later-5.key', keys[5])]);
+    await says(pieceWords(springDealing(6)));
+});
+
+onPage('damaged keys: plain words beside the key, number and detail folded', async (page) => {
+    const keys = springKeys(3);
+    const long = keys[1].length;
+    const damaged = [[13, changed(keys[1], 5), sentence('damaged')],
+        [12, keys[1].subarray(0, long - 1), sentence('cut short', { bytes: long - 1, asked: long })],
+        [12, Buffer.concat([keys[1], Buffer.of(9)]), sentence('too many bytes', { bytes: long + 1, asked: long })],
+        [10, keys[1].map((byte, at) => (at < 3 ? 0xFF : byte)), sentence('no key')],
+        [1, keys[1].map((byte, at) => (at === 0 ? 7 : byte)), sentence('no key')],
+        [11, keys[1].map((byte, at) => (at === 1 ? 3 : byte)), sentence('no such player')]];
+    for (const [number, key, words] of damaged) {
+        await give(page, [stored('a.key', keys[0]), stored('b.key', key), stored('c.key', keys[2])], 4);
+        assert.deepEqual(await keyStates(page), ['used', 'missing', 'used', 'refused']);
+        assert.equal((await keyLines(page))[3], `\u2717 does not fit b.key ${capital(words)}`);
+        assert.equal(await page.text('#keys li.refused .note-line'), refusalWords(number));
+        assert.equal(await isShown(page, '#keys li.refused .note-line'), false);
+        assert.equal(await answer(page), 'Player 1\u2019s key is missing.');
+        assert.equal(await page.text('#caution'), `b.key: ${words}.`);
+        assert.equal(await isShown(page, '#board-part'), false);
         await page.click('#clear');
-        assert.equal(await page.text('#status'), 'No keys are here yet.');
+        assert.equal(await isShown(page, '#result'), false);
     }
+    await give(page, [stored('b.key', damaged[0][1])], 1);
+    assert.equal(await answer(page), `${capital(sentence('damaged'))}.`);
+    assert.equal(await page.text('#refusal p'), refusalWords(13));
 });
 
-onPage('keys in the wrong order: 15 beside the key that it is about, and one button sets it right', async (page) => {
+onPage('any order, copies, another board\u2019s key, two keys of one player', async (page) => {
     const dealing = springDealing();
     const keys = keysApart(library, library.deal(dealing));
-    const order = [0, 1, 4, 3, 2, 5];
-    await page.giveFiles('#files', order.map((player, index) => stored(`order-${index}.key`, keys[player])));
-    await page.until(() => document.querySelectorAll('#keys li').length === 6);
-    assert.equal(await page.text('#status'),
-        `Each key is accepted alone. Joining them is refused with 15: ${words(15)}. This is the key at place 2, of player 4.`);
-    const shown = await keysShown(page);
-    assert.deepEqual(shown.map(({ accepted }) => accepted), [true, true, false, true, true, true]);
-    assert.match(shown[2].answer, /^Refused 15 /);
-    assert.equal(await isShown(page, '#joined'), false);
-    await page.screenshot(`${pictures}wrong-order.png`);
-    // By hand: the key at place 2 goes down twice; the focus stays with it.
-    await page.click('#keys li:nth-child(3) button[data-action="later"]');
-    await page.press('Enter');
-    assert.match(await page.text('#status'), /the key at place 2, of player 3\.$/);
-    await page.click('#sort');
-    assert.match(await page.text('#status'), new RegExp(`^6 keys, all accepted and joined. The piece lies on square ${dealing.point}, `));
-    assert.equal(await isShown(page, '#order'), false);
+    await give(page, [0, 1, 4, 3, 2, 5].map((player, index) => stored(`order-${index}.key`, keys[player])), 6);
+    assert.equal(await answer(page), pieceWords(dealing));
+    assert.match((await keyLines(page))[2], /^Player 2 \u2713 fits order-4.key /);
+    // A copy and a key of another board are named, and do not stop the match.
+    await give(page, [stored('again.key', keys[0]), stored('other.key', springKeys(3)[1])], 8);
+    assert.equal(await answer(page), pieceWords(dealing));
+    assert.deepEqual((await keyLines(page)).slice(6), [`Player 0 \u2713 fits again.key ${capital(sentence('copy', { player: 0 }))}`,
+        '\u2717 does not fit other.key This key is of a board for three players']);
+    assert.equal(await page.text('#standing'), 'All six keys are here. One key does not fit.');
+    // Another key of player 0 does.
+    await give(page, [stored('rival.key', springKeys(6, 99)[0])], 9);
+    assert.equal(await answer(page), `${capital(sentence('conflict', { player: 0 }))}.`);
+    assert.equal(await page.text('#refusal p'), refusalWords(12));
+    assert.equal(await isShown(page, '#board-part'), false);
+    await open(page, 'intake');
+    await page.click('#keys li.conflict summary');
+    await page.click('#keys li.conflict button');
+    assert.equal(await answer(page), pieceWords(dealing));
 });
 
-onPage('keys of two matches', async (page) => {
-    const [one, other] = [2, 3].map((players) => keysApart(library, library.deal(springDealing(players))));
-    await page.giveFiles('#files', [stored('one.key', one[0]), stored('two.key', other[1])]);
-    await page.until(() => document.querySelectorAll('#keys li').length === 2);
-    assert.match(await page.text('#status'), /^Each key is accepted alone. Joining them is refused with 12: /);
-    await page.click('#clear');
-    // Two dealings of one board: joined, but nearly every square is noise.
-    const again = keysApart(library, library.deal(randomDealing(springDealing(2), sameEachTime(99))));
-    await page.giveFiles('#files', [stored('one.key', one[0]), stored('two.key', again[1])]);
-    await page.until(() => document.querySelectorAll('#keys li').length === 2);
-    assert.match(await page.text('#status'), /^2 keys, all accepted and joined. \d+ squares are not zero: these keys are not of one dealing.$/);
-    await page.click('#clear');
-    await page.giveFiles('#files', [stored('nobody.key', library.deal({ ...printedDeal(), value: Uint8Array.of(0) }))]);
-    await page.until(() => document.querySelectorAll('#keys li').length === 2);
-    assert.match(await page.text('#status'), /Every square is zero: the hidden value was zero, or these keys are not of one dealing.$/);
+onPage('zero everywhere is said', async (page) => {
+    await give(page, [stored('nobody.key', library.deal({ ...printedDeal(), value: Uint8Array.of(0) }))], 2);
+    assert.equal(await answer(page), sentence('zero'));
+    assert.equal(await page.text('#caution'), sentence('caution'));
+    assert.deepEqual(await looking(page, 'joined', 'piece'), []);
+    assert.equal(await page.run(() => document.getElementById('verdict').className), 'verdict zero');
 });
 
-onPage('hexadecimal: pasted, typed, wrapped, wrong; files of text; all keys in one file; dropped files', async (page) => {
+onPage('text: pasted, typed, quoted, numbered, wrapped, wrong; dropped files', async (page) => {
     const all = library.deal(printedDeal());
     const keys = keysApart(library, all);
-    const good = '2 keys, all accepted and joined. The piece lies on square 4. Its value is A5.';
     const isGood = async () => {
-        await page.until((status) => document.getElementById('status').textContent === status, good);
+        await page.until((words) => document.getElementById('answer').textContent === words, pieceWords(printedDeal()));
+        assert.deepEqual(await problems(page), []);
         await page.click('#clear');
     };
-    const byLine = keys.map(hexadecimal).join('\n');
+    const lines = keys.map(hexadecimal);
+    const byLine = lines.join('\n');
     // A real paste, through the clipboard.
-    await page.type('#paste', byLine);
+    await page.type('#paste', matchText(keys));
     await page.press('a', { commands: ['selectAll'] });
     await page.press('x', { commands: ['cut'] });
     assert.equal(await page.run(() => document.getElementById('paste').value), '');
     await page.press('v', { commands: ['paste'] });
     await isGood();
     assert.equal(await page.run(() => document.getElementById('paste').value), '');
-    const ways = [byLine.toLowerCase(), hexadecimal(all).replace(/.{60}/g, '$&\n'),
-        keys.map((key) => hexadecimal(key).replace(/.{32}/g, '$&\n')).join('\n\n'),
-        Array.from(all, (byte) => `0x${byte.toString(16).padStart(2, '0')}`).join(', '), `\r\n${keys.map(hexadecimal).join('\r\n')}\r\n`];
+    const ways = [byLine.toLowerCase(), hexadecimal(all).replace(/.{60}/g, '$&\n'), lines.map((line) => `> ${line}`).join('\n'),
+        lines.map((line, place) => `${place + 1}. \u201C${line}\u201D`).reverse().join('\n'), `\r\n${lines.join('\r\n')}\r\n`];
     for (const text of ways) {
         await page.type('#paste', text);
         await page.click('#paste-form button');
         await isGood();
     }
-    await page.type('#paste', '02 00 0G');
-    await page.click('#paste-form button');
-    assert.equal(await page.text('#read-problem'), '\u201CG\u201D is not a hexadecimal digit.');
-    assert.equal(await page.text('#status'), 'No keys are here yet.');
-    await page.run(() => { document.getElementById('paste').value = '020'; });
-    await page.click('#paste-form button');
-    assert.equal(await page.text('#read-problem'), '3 hexadecimal digits: a byte has two.');
-    await page.run(() => { document.getElementById('paste').value = ' '; });
-    await page.click('#paste-form button');
-    assert.equal(await page.text('#read-problem'), 'There is nothing to read yet.');
-    for (const file of [stored('all.keys', all), stored('all.txt', byLine)]) {
-        await page.giveFiles('#files', [file]);
+    for (const file of [stored('all.keys', all), stored('all.txt', byLine), stored('match', matchText(keys))]) {
+        await give(page, [file], 2);
         await isGood();
     }
-    await page.giveFiles('#files', [stored('photo.jpg', new Uint8Array(17 * 1024 * 1024))]);
-    await page.until(() => document.getElementById('read-problem').textContent === 'photo.jpg is too long: no board has so many bytes of keys.');
+    const wrong = async (text, ...words) => {
+        await page.run((given) => { document.getElementById('paste').value = given; }, text);
+        await page.click('#paste-form button');
+        assert.deepEqual(await problems(page), words);
+    };
+    await wrong('02 00 0G', 'line 1: \u201CG\u201D is no hexadecimal digit');
+    assert.equal(await isShown(page, '#result'), false);
+    await wrong('020', 'line 1: 3 hexadecimal digits, and a byte has two');
+    await wrong(' ', 'the text is empty');
+    await wrong(`${matchText(keys)}\nPlayed on Sunday`, 'line 4: \u201CP\u201D is no hexadecimal digit');
+    assert.equal(await answer(page), pieceWords(printedDeal()));
+    assert.ok(await isShown(page, '#problems'));
+    await page.click('#clear');
     await page.run((given) => {
         const dropped = new DataTransfer();
         given.forEach((bytes, index) => dropped.items.add(new File([Uint8Array.from(bytes)], `${index}.key`)));
         document.body.dispatchEvent(new DragEvent('drop', { dataTransfer: dropped, bubbles: true, cancelable: true }));
     }, keys.map((key) => [...key]).reverse());
-    await page.until(() => document.querySelectorAll('#keys li').length === 2);
-    assert.match(await page.text('#status'), /refused with 15/);
+    await isGood();
+});
+
+onPage('a file that is too long or empty is named, and the others are read', async (page) => {
+    const keys = keysApart(library, library.deal(printedDeal()));
+    await give(page, [stored('a-photo.jpg', new Uint8Array(17 * 1024 * 1024)), stored('nothing.key', ''), ...keys.map((key, player) => stored(`z-${player}.key`, key))], 2);
+    assert.equal(await answer(page), pieceWords(printedDeal()));
+    assert.deepEqual(await problems(page), ['a-photo.jpg is too long: no board has so many bytes of keys', 'nothing.key is empty']);
+    assert.ok(await isShown(page, '#problems'));
+});
+
+onPage('an example does not throw loaded keys away', async (page) => {
+    const dealing = springDealing(4);
+    const keys = keysApart(library, library.deal(dealing));
+    await give(page, keys.map((key, player) => stored(`player-${player}.key`, key)), 4);
+    await open(page, 'intake');
+    await page.click('#spring-six');
+    assert.equal((await keyLines(page)).length, 6);
+    assert.equal(await page.text('#example-words'), 'An example: your browser hid this piece and dealt these keys just now.');
+    await open(page, 'intake');
+    await page.click('#small');
+    assert.equal(await page.text('#example-words'), 'An example: a board of six squares for two players, always the same.');
+    assert.equal(await page.text('#leave-example'), 'Back to your keys');
+    await page.click('#leave-example');
+    assert.equal(await answer(page), pieceWords(dealing));
+    assert.equal(await isShown(page, '#example-note'), false);
+    // Keys that come during an example come to the reader's own.
+    await page.click('#clear');
+    await give(page, [stored('player-0.key', keys[0])], 4);
+    await page.click('#spring');
+    await open(page, 'intake');
+    await give(page, keys.slice(1).map((key, player) => stored(`player-${player + 1}.key`, key)), 4);
+    await page.until((words) => document.getElementById('answer').textContent === words, pieceWords(dealing));
 });
 
 onPage('a drawn spring board has one piece', async (page) => {
     const seen = new Set();
     for (let times = 0; times < 5; times += 1) {
         await page.click('#spring');
-        assert.match(await page.text('#status'),
-            /^6 keys, all accepted and joined\. The piece lies on square \d+, sensor \d+\. Its value is [0-9A-F]{2}\.$/);
-        assert.equal((await piecesShown(page, 'joined')).length, 1);
-        seen.add(await page.text('#status'));
+        assert.match(await answer(page), /^The piece lies on square \d+ \(line \d, column \d, sensor \d+\)\. Its value is [0-9A-F]{2}\.$/);
+        assert.equal((await looking(page, 'joined', 'piece')).length, 1);
+        assert.equal((await keyLines(page)).length, 4);
+        seen.add(await answer(page));
+        await page.click('#leave-example');
+        assert.equal(await isShown(page, '#explained'), true);
     }
     assert.ok(seen.size > 1);
+});
+
+onPage('a match is saved as text, and that text is the match', async (page) => {
+    const keys = springKeys(5);
+    const saved = `${files}match.txt`;
+    rmSync(saved, { force: true });
+    await browser.saveTo(files);
+    await give(page, [stored('all.keys', Buffer.concat(keys.slice().reverse()))], 5);
+    await page.click('#save');
+    for (let times = 0; !existsSync(saved) && times < 200; times += 1) await new Promise((resolve) => { setTimeout(resolve, 25); });
+    const text = readFileSync(saved, 'utf8');
+    assert.equal(text, matchText(keys));
+    assert.deepEqual(keysOfText(library, text).keys.map(({ bytes }) => bytes), keys);
+    page.requests.splice(1);
+});
+
+onPage('on paper: the answer, the board and every fingerprint whole', async (page) => {
+    const keys = springKeys(3);
+    await give(page, [stored('match.txt', matchText(keys))], 3);
+    await page.run(() => window.dispatchEvent(new Event('beforeprint')));
+    await page.send('Emulation.setEmulatedMedia', { media: 'print' });
+    for (const [selector, shown] of [['#answer', true], ['#caution', true], ['#joined', true], ['#fingerprint-table', true], ['.tools', false], ['#intake', false],
+        ['#keys', false], ['#proved-part', false]]) assert.equal(await isShown(page, selector), shown, selector);
+    for (const key of keys) assert.ok((await page.run(() => document.body.innerText)).includes(fingerprint(key)));
+    await page.screenshot(`${pictures}paper.png`);
+    await page.run(() => window.dispatchEvent(new Event('afterprint')));
+    assert.equal(await page.run(() => document.getElementById('fingerprints').open), false);
+    const { data } = await page.send('Page.printToPDF', {});
+    assert.equal((Buffer.from(data, 'base64').toString('latin1').match(/\/Type\s*\/Page\b/g) ?? []).length, 1);
+    await page.send('Emulation.setEmulatedMedia', { media: '' });
 });
 
 onPage('the largest board is shown in parts', async (page) => {
     const board = { players: 2, positions: 65536, width: 256, valueBytes: 16 };
     const dealing = randomDealing(board, sameEachTime(8));
     const keys = library.deal(dealing);
-    await page.giveFiles('#files', [stored('large.keys', keys)]);
-    await page.until(() => document.querySelectorAll('#keys li').length === 2);
-    assert.equal(await page.text('#status'),
-        `2 keys, all accepted and joined. The piece lies on square ${dealing.point}. Its value is ${hexadecimal(dealing.value)}.`);
+    await give(page, [stored('large.keys', keys)], 2);
+    assert.equal(await answer(page), pieceWords(dealing));
     const first = dealing.point - dealing.point % 256;
     assert.equal(await page.text('#range'), `Squares ${first.toLocaleString('en')} to ${(first + 255).toLocaleString('en')} of 65,536`);
-    assert.deepEqual(await piecesShown(page, 'joined'), [dealing.point]);
+    assert.deepEqual(await looking(page, 'joined', 'piece'), [dealing.point]);
     const table = library.openAll(keysApart(library, keys)[0]);
-    assert.deepEqual(await labels(page, 'single'), squareLabels(table, board, [], [first, first + 256]));
-    await page.screenshot(`${pictures}largest-board.png`, '#boards');
+    await open(page, 'group-part');
+    assert.deepEqual(await labels(page, 'group'), squareLabels(table, board, false, null, [first, first + 256]));
+    await page.screenshot(`${pictures}largest-board.png`, '#result');
     await page.click(first === 0 ? '#later' : '#earlier');
     const other = first === 0 ? 256 : first - 256;
-    assert.deepEqual(await labels(page, 'single'), squareLabels(table, board, [], [other, other + 256]));
+    assert.deepEqual(await labels(page, 'group'), squareLabels(table, board, false, null, [other, other + 256]));
     await page.click('#to-piece');
-    assert.equal(await page.text('#shares caption'), `Square ${dealing.point}`);
+    assert.equal(await page.text('#shares caption'), capital(inWords(dealing.point, dealing)));
     await page.run(() => document.querySelector('#joined td[tabindex="0"]').focus());
     await page.press('PageDown');
     assert.equal(await page.run(() => Number(document.activeElement.dataset.position)), Math.min(65535, dealing.point + 256));
@@ -295,10 +468,10 @@ onPage('the largest board is shown in parts', async (page) => {
 onPage('values of two to five bytes', async (page) => {
     for (const valueBytes of [2, 3, 5, 4]) {
         const dealing = randomDealing({ players: 4, positions: 30, width: 8, valueBytes }, sameEachTime(valueBytes));
-        await page.giveFiles('#files', [stored('values.keys', library.deal(dealing))]);
-        await page.until(() => document.querySelectorAll('#keys li').length === 4);
-        assert.match(await page.text('#status'), new RegExp(`square ${dealing.point}. Its value is ${hexadecimal(dealing.value)}.$`));
-        await page.screenshot(`${pictures}values-${valueBytes}.png`, '#boards');
+        await give(page, [stored('values.keys', library.deal(dealing))], 4);
+        assert.equal(await answer(page), pieceWords(dealing));
+        await page.settled();
+        await page.screenshot(`${pictures}values-${valueBytes}.png`, '#result');
         if (valueBytes !== 4) await page.click('#clear');
     }
 }, PHONE);
@@ -306,74 +479,77 @@ onPage('values of two to five bytes', async (page) => {
 onPage('by keyboard alone', async (page) => {
     const focused = () => page.run(() => {
         const found = document.activeElement;
-        return found.id || found.getAttribute('aria-label') || (found.closest('label') ?? found).textContent.trim();
+        return found.id || found.getAttribute('aria-label') || found.textContent.trim().replace(/\s+/g, ' ') || (found.closest('label') ?? found).textContent.trim();
     });
-    const order = [];
-    for (let times = 0; times < 6; times += 1) {
-        await page.press('Tab');
-        order.push(await focused());
-    }
-    assert.deepEqual(order, ['To the board', 'paste', 'Add these keys', 'files', 'printed', 'spring']);
+    const tabbed = async (times) => {
+        const order = [];
+        for (let time = 0; time < times; time += 1) {
+            await page.press('Tab');
+            order.push(await focused());
+        }
+        return order;
+    };
+    assert.deepEqual(await tabbed(8), ['To the answer', 'files', 'paste', 'Read this text', 'spring', 'spring-six', 'small', 'What is proved, and what is not']);
     await page.press('Tab', { shift: true });
     await page.press('Enter');
-    assert.match(await page.text('#status'), /^2 keys, all accepted and joined/);
-    assert.equal(await focused(), 'printed');
-    const rest = [];
-    for (let times = 0; times < 13; times += 1) {
-        await page.press('Tab');
-        rest.push(await focused());
-    }
-    assert.deepEqual(rest, ['spring', 'Down one place: the key at place 0', 'Remove: the key at place 0', 'Up one place: the key at place 1',
-        'Remove: the key at place 1', 'clear', 'Square 4, value A5, the piece', 'player', 'Square 4, value 68', 'square', 'Player 0', 'Player 1',
-        'Square 4, value 68']);
+    assert.equal(await focused(), 'answer');
+    const lines = await keyLines(page);
+    assert.deepEqual(await tabbed(9), ['Square 4 (line 0, column 4): value A5, the piece', ...lines, 'save', 'print', 'clear',
+        'All fingerprints, whole', 'Give other keys', 'One square, key by key']);
     // In a board: arrows move, Enter chooses, and the board is one stop.
-    for (let times = 0; times < 4; times += 1) await page.press('Tab', { shift: true });
-    assert.equal(await focused(), 'Square 4, value 68');
+    await page.run(() => document.querySelector('#joined td[tabindex="0"]').focus());
     await page.press('ArrowLeft');
     await page.press('ArrowLeft');
-    assert.match(await focused(), /^Square 2, /);
+    assert.match(await focused(), /^Square 2 /);
     await page.press('Enter');
-    assert.match(await focused(), /^Square 2, /);
-    assert.equal(await page.text('#shares caption'), 'Square 2');
+    assert.match(await focused(), /^Square 2 /);
+    assert.match(await page.text('#shares caption'), /^Square 2 /);
+    assert.ok(await isShown(page, '#shares'));
     assert.equal(await page.run(() => document.querySelector('#joined [aria-selected="true"]').dataset.position), '2');
     await page.press('End');
-    assert.match(await focused(), /^Square 5, /);
+    assert.match(await focused(), /^Square 5 /);
     await page.press('ArrowRight');
     await page.press('ArrowDown');
-    assert.match(await focused(), /^Square 5, /);
+    assert.match(await focused(), /^Square 5 /);
     await page.press('Home');
     await page.press(' ');
-    assert.equal(await page.text('#shares caption'), 'Square 0');
-    // Removing keys leaves the focus where the next one stands, and with the words when none is left.
-    await page.run(() => document.querySelector('#keys button[data-action="remove"]').focus());
+    assert.match(await page.text('#shares caption'), /^Square 0 /);
+    // A key unfolds by Enter; removing keys leaves the focus where the next one stands, and with the files when none is left.
+    await page.run(() => document.querySelector('#keys summary').focus());
     await page.press('Enter');
-    assert.equal(await focused(), 'Remove: the key at place 0');
-    assert.equal(await page.text('#status'), '1 key of 2, all accepted. Missing: player 0.');
+    await page.press('Tab');
+    assert.equal(await focused(), 'Remove the key the small board');
     await page.press('Enter');
-    assert.equal(await focused(), 'status');
+    assert.equal(await focused(), (await keyLines(page))[1]);
+    assert.equal(await answer(page), 'Player 0\u2019s key is missing.');
+    await page.press('Enter');
+    await page.press('Tab');
+    await page.press('Enter');
+    assert.equal(await focused(), 'files');
 });
 
 onPage('for a screen reader', async (page) => {
-    await page.click('#spring');
+    await page.click('#spring-six');
+    for (const id of ['intake', 'square-part', 'group-part', 'proved-part', 'fingerprints']) await open(page, id);
     const nodes = await page.accessible();
-    const controls = nodes.filter(({ role }) =>
-        ['button', 'textbox', 'combobox', 'checkbox', 'spinbutton', 'grid', 'gridcell', 'list', 'link', 'rowheader', 'group', 'table']
-            .includes(role));
-    assert.deepEqual(controls.filter(({ name, role }) => name.trim() === '' && role !== 'list'), []);
+    const roles = ['button', 'textbox', 'combobox', 'checkbox', 'switch', 'spinbutton', 'grid', 'gridcell', 'list', 'link', 'rowheader', 'columnheader', 'group',
+        'table', 'DisclosureTriangle', 'image', 'region'];
+    const controls = nodes.filter(({ role }) => roles.includes(role));
+    assert.deepEqual(controls.filter(({ name, role }) => name.trim() === '' && !['list', 'group'].includes(role)), []);
     const named = (role) => controls.filter((node) => node.role === role).map(({ name }) => name);
-    assert.deepEqual(named('textbox'), ['Keys in hexadecimal']);
-    assert.deepEqual(named('combobox'), ['Whose table']);
+    assert.deepEqual(named('textbox'), ['Or paste the keys as text']);
+    assert.deepEqual(named('switch'), ['Sensors']);
     assert.deepEqual(named('spinbutton'), ['Square']);
     assert.deepEqual(named('checkbox'), [0, 1, 2, 3, 4, 5].map((player) => `Player ${player}`));
-    assert.deepEqual(named('grid').sort(), ['The joined board', 'The joined table of players 0, 1, 2, 3 and 4', 'The table of player 0']);
-    assert.equal(named('gridcell').length, 3 * 72);
-    assert.ok(named('gridcell').some((name) => name.endsWith(', the piece')));
-    assert.equal(named('rowheader').filter((name) => name.startsWith('Line ')).length, 27);
-    assert.ok(named('list').includes('The keys, in the order in which they are joined'));
-    assert.ok(named('button').includes('Remove: the key at place 5'));
+    assert.deepEqual(named('grid').sort(), ['The board, all keys together', 'What players 0, 1, 2, 3 and 4 see together']);
+    assert.equal(named('gridcell').length, 2 * 72);
+    assert.equal(named('gridcell').filter((name) => name.endsWith(', the piece')).length, 1);
+    assert.equal(named('rowheader').filter((name) => name.startsWith('Line ')).length, 18);
+    assert.equal(named('columnheader').filter((name) => name.startsWith('Column ')).length, 16);
+    assert.ok(named('list').includes('The keys'));
     const headings = nodes.filter(({ role }) => role === 'heading').map(({ name }) => name);
-    const parts = ['Reopen a published match', 'The keys', 'The board', 'The shares of a square', 'A coalition', 'What is proved, and what is not'];
-    for (const name of parts) assert.ok(headings.includes(name), name);
+    for (const name of ['Where did the piece lie?', 'The keys', 'Give other keys', 'One square, key by key', 'What some of the players see together',
+        'What is proved, and what is not', await answer(page)]) assert.ok(headings.includes(name), name);
     const live = nodes.filter(({ live: how }) => how === 'polite' || how === 'assertive').map(({ role }) => role);
     assert.deepEqual(live.sort(), ['alert', 'alert', 'status', 'status', 'status']);
     assert.equal(await page.run(() => document.documentElement.lang), 'en');
@@ -420,31 +596,55 @@ function contrasts() {
 }
 
 for (const scheme of ['light', 'dark']) {
-    for (const [name, size] of [['desk', { width: 1200, height: 900 }], ['phone', PHONE]]) {
-        onPage(`${scheme}, ${name}: texts stand out, controls are large enough`, async (page) => {
-            await page.giveFiles('#files', [stored('spring.keys', library.deal(springDealing()))]);
-            await page.until(() => document.querySelectorAll('#keys li').length === 6);
-            const found = await page.run(contrasts);
-            assert.ok(found.length > 20);
-            assert.deepEqual(found.filter(([, contrast]) => contrast < 4.5), []);
-            const small = await page.run(() => [...document.querySelectorAll('button, select, input, td[role="gridcell"]')]
-                .filter((control) => control.checkVisibility())
-                .map((control) => [control.id || control.textContent, (control.closest('label') ?? control).getBoundingClientRect()])
-                .filter(([, { width, height }]) => width < 24 || height < 24).map(([control]) => control));
-            assert.deepEqual(small, []);
-            for (const part of ['keys-part', 'boards', 'square-part', 'coalition-part', 'proved-part']) {
-                await page.screenshot(`${pictures}${scheme}-${name}-${part}.png`, `#${part}`);
-            }
-            const ground = await page.run(() => getComputedStyle(document.documentElement).backgroundColor);
-            assert.equal(ground, scheme === 'light' ? 'rgb(250, 249, 245)' : 'rgb(20, 23, 28)');
-        }, { ...size, scheme });
+    for (const [size, look] of [['1280', DESK], ['390', PHONE]]) {
+        for (const kind of ['empty', 'loaded', 'damaged', 'several', 'zero']) {
+            onPage(`${scheme}, ${size} pixels, ${kind}: texts stand out, controls are large enough`, async (page) => {
+                const keys = springKeys(6);
+                const given = { loaded: keys, damaged: [changed(keys[0], 5), ...keys.slice(1)], several: [springKeys(6, 99)[0], ...keys.slice(1)],
+                    zero: keysApart(library, library.deal({ ...printedDeal(), value: Uint8Array.of(0) })) }[kind];
+                if (given !== undefined) {
+                    await page.giveFiles('#files', given.map((key, player) => stored(`${kind}-${player}.key`, key)));
+                    await page.until((count) => document.querySelectorAll('#keys details').length === count, given.length);
+                    for (const id of ['intake', 'square-part', 'group-part', 'proved-part', 'fingerprints']) await open(page, id);
+                    if (kind === 'loaded') await page.click('#sensors');
+                    await page.run(() => document.querySelectorAll('#keys details').forEach((details) => { details.open = true; }));
+                    await page.settled();
+                }
+                const found = await page.run(contrasts);
+                assert.ok(found.length > 15);
+                assert.deepEqual(found.filter(([, contrast]) => contrast < 4.5), []);
+                const small = await page.run(() => [...document.querySelectorAll('button, select, input, summary, td[role="gridcell"]')]
+                    .filter((control) => control.checkVisibility())
+                    .map((control) => [control.id || control.textContent, (control.closest('label') ?? control).getBoundingClientRect()])
+                    .filter(([, { width, height }]) => width < 24 || height < 24).map(([control]) => control));
+                assert.deepEqual(small, []);
+                await page.screenshot(`${pictures}${scheme}-${size}-${kind}-unfolded.png`);
+                const ground = await page.run(() => getComputedStyle(document.documentElement).backgroundColor);
+                assert.equal(ground, scheme === 'light' ? 'rgb(247, 244, 236)' : 'rgb(19, 23, 26)');
+            }, { ...look, scheme });
+        }
     }
 }
+
+test('README\u2019s picture is one of this page', async () => {
+    const kept = new URL('../docs/page.png', import.meta.url);
+    const page = await browser.open(place, { width: 1280, height: 860 });
+    await page.until(() => document.body.dataset.ready === 'yes');
+    const keys = keysApart(library, library.deal(springDealing(4, 305)));
+    await give(page, keys.map((key, player) => stored(`player-${player}.key`, key)), 4);
+    await page.settled();
+    await page.run(() => scrollTo(0, 0));
+    await page.screenshot(`${pictures}readme.png`, null);
+    await page.close();
+    const made = withWords(readFileSync(`${pictures}readme.png`), pageDigest());
+    if (process.env.KEEP_PICTURE) writeFileSync(kept, made);
+    assert.equal(wordsIn(readFileSync(kept)), pageDigest(), 'docs/page.png shows an older page; `tests/run-web --keep` makes it anew');
+});
 
 test('a library that cannot be opened is said', async () => {
     const broken = readFileSync(place, 'utf8').replace(/(id="module">\s*)AGFzbQ/, '$1AGFzbg');
     const page = await browser.open(`file://${stored('broken.html', broken)}`);
-    await page.until(() => document.getElementById('status').textContent.startsWith('The library cannot be opened in this browser: '));
+    await page.until(() => document.getElementById('problems').textContent.startsWith('The library cannot be opened in this browser: '));
     await page.close();
 });
 

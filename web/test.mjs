@@ -1,10 +1,12 @@
 // Tests of nosingginger.mjs in node: every call, every refusal, the printed deal, what is left of a lent output, the largest table, the
-// memory's growth, the second implementation's answers, and what the page makes of keys. Assumes that targets/build has run.
+// memory's growth, the second implementation's answers, drawn dealings and the example. Assumes that targets/build has run.
 import assert from 'node:assert/strict';
+import { execFileSync } from 'node:child_process';
 import { readFileSync, readdirSync } from 'node:fs';
 import { test } from 'node:test';
+import { fileURLToPath } from 'node:url';
 import { load, loadBase64, Nosingginger, Refused, REFUSALS } from './nosingginger.mjs';
-import { randomDealing } from './draw.mjs';
+import { randomDealing, systemBytes } from './draw.mjs';
 import { keysApart, marked, printedDeal } from './match.mjs';
 import { sameEachTime } from './random.mjs';
 
@@ -49,8 +51,11 @@ test('it is made from bytes, a module, a place and base64', async () => {
     assert.throws(() => new Nosingginger({ exports: { memory: new WebAssembly.Memory({ initial: 1 }) } }), /nsg_key_length/);
 });
 
-test('the numbers have the names of the Rattle sources and of the C header', () => {
-    assert.deepEqual(REFUSALS.map(({ number }) => number), Array.from({ length: 17 }, (_, place) => place + 1));
+test('the refusals are those of the one list, and have the names of the Rattle sources', () => {
+    const listed = readFileSync(new URL('refusals.txt', root), 'utf8').matchAll(/^(\d+) (\w+) (.*)$/gm);
+    assert.deepEqual([...listed].map(([, number, name, words]) => [Number(number), `REFUSED_${name}`, words]),
+        REFUSALS.map(({ number, name, words }) => [number, name, words]));
+    REFUSALS.forEach((refusal, place) => assert.deepEqual([refusal.number, Object.isFrozen(refusal)], [place + 1, true]));
     const found = new Map();
     for (const file of readdirSync(new URL('crates/', root), { recursive: true }).filter((name) => /src\/[^/]*\.rt$/.test(name))) {
         for (const [, name, number] of readFileSync(new URL(`crates/${file}`, root), 'utf8').matchAll(/pub const (REFUSED_\w+): u32 = (\d+);/g)) {
@@ -58,10 +63,26 @@ test('the numbers have the names of the Rattle sources and of the C header', () 
         }
     }
     assert.deepEqual([...found].sort(([a], [b]) => a - b), REFUSALS.map(({ number, name }) => [number, name]));
-    const header = readFileSync(new URL('include/nosingginger.h', root), 'utf8');
-    const named = [...header.matchAll(/^#define NSG_(REFUSED_\w+)\s+(\d+)u\s+\/\* (.*) \*\/$/gm)];
-    assert.deepEqual(named.map(([, name, number, words]) => [Number(number), name, words.replaceAll('\'', '\u2019')]),
-        REFUSALS.map(({ number, name, words }) => [number, name, words]));
+});
+
+// Node 18 has the system's random source only where it is asked for; later ones have it always.
+const withRandomSource = globalThis.crypto ? [] : ['--experimental-global-webcrypto'];
+
+test('the example deals, opens and joins, and draws anew each time', () => {
+    const example = fileURLToPath(new URL('example.mjs', import.meta.url));
+    assert.ok(readFileSync(example, 'utf8').trimEnd().split('\n').length <= 15);
+    const run = () => execFileSync(process.execPath, [...withRandomSource, example], { cwd: '/', encoding: 'utf8' });
+    const written = [run(), run(), run()];
+    for (const text of written) {
+        const [first, second] = text.split('\n');
+        const [, square, shares] = /^On square (\d+) the players see ([\d, ]+): noise, each alone\.$/.exec(first);
+        const [, value, others] = /^Together that is (\d+)\. All keys joined are zero on every square but (.*)\.$/.exec(second);
+        assert.equal(shares.split(', ').length, 4);
+        assert.equal(shares.split(', ').reduce((sum, share) => sum ^ Number(share), 0), Number(value));
+        assert.ok(Number(value) > 0 && Number(square) < 72);
+        assert.equal(others, square);
+    }
+    assert.equal(new Set(written).size, 3);
 });
 
 test('key length', () => {
@@ -342,6 +363,18 @@ test('the second implementation\u2019s answers, all cases of the eleven operatio
     assert.deepEqual([...tried.keys()].sort((a, b) => a - b), Object.keys(OPERATIONS).map(Number));
     const numbers = new Set([...tried.values()].flatMap((set) => [...set]));
     assert.deepEqual([...numbers].sort((a, b) => a - b), Array.from({ length: 18 }, (_, number) => number));
+});
+
+test('the system\u2019s bytes are as many as are asked for, on the largest board too', { skip: !globalThis.crypto }, () => {
+    for (const length of [0, 1, 65536, 65537, 200000]) {
+        const bytes = systemBytes(length);
+        assert.equal(bytes.length, length);
+        // A part of 64 bytes that was left as it was made is zero; a drawn one is not, but for one in 2 to the power of 512.
+        for (let at = 0; at + 64 <= length; at += 64) assert.ok(bytes.subarray(at, at + 64).some((byte) => byte !== 0));
+    }
+    const dealing = randomDealing({ players: 6, positions: 65536, width: 256, valueBytes: 16 });
+    const table = nosingginger.joinKeys(nosingginger.deal(dealing));
+    assert.deepEqual(marked(table, dealing), [dealing.point]);
 });
 
 test('a drawn dealing is accepted, on every kind of board', () => {

@@ -1,27 +1,16 @@
 #![doc = include_str!("../README.md")]
+#![no_std]
 #![deny(missing_docs)]
+// What could panic is seen where clippy is run, in this crate's tests too.
+#![deny(clippy::panic, clippy::unreachable, clippy::unwrap_used, clippy::expect_used)]
+#![deny(clippy::indexing_slicing, clippy::arithmetic_side_effects)]
 
+mod board;
 pub mod raw;
 mod refusal;
 
+pub use board::*;
 pub use refusal::Refusal;
-
-/// The bytes of a seed.
-pub const SEED_BYTES: usize = 32;
-
-/// A board as a grid. [`key_length`] says whether its numbers are in their ranges.
-#[derive(Clone, Copy, Debug, PartialEq, Eq, Hash)]
-pub struct Board {
-    /// Players, 2 to 6.
-    pub players: u32,
-    /// Positions, 1 to 65,536, numbered from 0: the squares of the board.
-    pub positions: u32,
-    /// Grid width, 1 to 256: the cells of a grid row. Position a lies in grid row a div width, cell a mod width, and there are at most 256
-    /// grid rows. [`choose_width`] gives the one that makes keys short.
-    pub width: u32,
-    /// Value width, 1 to 16: the bytes of a value and of a share.
-    pub value_bytes: u32,
-}
 
 /// What [`deal`] is lent, but for its output. An array has a column for each set of players of one parity: 2^(players − 1) columns.
 #[derive(Clone, Copy, Debug)]
@@ -33,11 +22,13 @@ pub struct Dealing<'a> {
     /// The piece: value_bytes bytes. Zero is allowed.
     pub value: &'a [u8],
     /// An array for each grid row: one byte for each column, bit i of a column being player i's mark. The array of the piece's grid row
-    /// has each column of an odd count of ones exactly once, every other array each of an even count, in an order drawn at random.
+    /// has each column of an odd count of ones exactly once, every other array each of an even count, both in an order drawn uniformly and
+    /// anew for every grid row and every deal. [`Board::arrays_len`] bytes.
     pub arrays: &'a [u8],
-    /// A seed of 32 random bytes for each column of each array, in the order of the arrays.
+    /// A seed of 32 random bytes for each column of each array, in the order of the arrays. Never used for another deal.
+    /// [`Board::seeds_len`] bytes.
     pub seeds: &'a [u8],
-    /// The correction words of all columns but the last: width × value_bytes random bytes for each.
+    /// The correction words of all columns but the last: width × value_bytes random bytes for each. [`Board::words_len`] bytes.
     pub words: &'a [u8],
 }
 
@@ -50,14 +41,14 @@ pub struct Header {
     pub player: u32,
 }
 
-/// The library's answer as a result. It gives 0 and the numbers of refusals alone.
+/// The library's answer as a result. The proved library gives 0 and the numbers of refusals alone; an archive that gives another is not this
+/// crate's, and what it did is not known. So this stops, rather than call it accepted or refused.
+#[expect(clippy::panic, reason = "the crate's only one, and the README names it")]
 fn answered(number: u32) -> Result<(), Refusal> {
     match Refusal::from_number(number) {
         Some(refusal) => Err(refusal),
-        None => {
-            assert_eq!(number, 0, "the library gives no such number");
-            Ok(())
-        }
+        None if number == 0 => Ok(()),
+        None => panic!("the archive is not this crate's: it gave the number {number}"),
     }
 }
 
@@ -91,10 +82,12 @@ pub fn key_length(board: Board) -> Result<u32, Refusal> {
     answered(number).map(|()| length)
 }
 
-/// **Deal**: writes the keys of all players one after another, player 0 first. That takes players × [`key_length`] bytes.
+/// **Deal**: writes the keys of all players one after another, player 0 first. That takes [`Board::keys_len`] bytes.
 ///
-/// Refuses as [`key_length`], then [`Point`](Refusal::Point), [`InputLength`](Refusal::InputLength), [`Array`](Refusal::Array),
-/// [`OutputLength`](Refusal::OutputLength).
+/// The caller wipes point, value, arrays, seeds and words after the call: together they tell where the piece is.
+///
+/// Refuses as [`key_length`], then [`Point`](Refusal::Point), [`Lent`](Refusal::Lent), [`Arrays`](Refusal::Arrays),
+/// [`Room`](Refusal::Room).
 pub fn deal(dealing: &Dealing<'_>, keys: &mut [u8]) -> Result<(), Refusal> {
     let board = dealing.board;
     let (value, value_length) = lent(dealing.value);
@@ -125,13 +118,13 @@ pub fn deal(dealing: &Dealing<'_>, keys: &mut [u8]) -> Result<(), Refusal> {
 
 /// **Check key**: the header's numbers of a key that can be opened.
 ///
-/// Refuses [`HeaderNumber`](Refusal::HeaderNumber), then as [`key_length`], then [`Player`](Refusal::Player),
-/// [`KeyLength`](Refusal::KeyLength), [`Marks`](Refusal::Marks).
+/// Refuses [`Number`](Refusal::Number), then as [`key_length`], then [`Player`](Refusal::Player),
+/// [`Length`](Refusal::Length), [`Marks`](Refusal::Marks).
 ///
 /// ```
 /// # use nosingginger::{check_key, Refusal};
-/// assert_eq!(check_key(&[]), Err(Refusal::HeaderNumber));
-/// assert_eq!(check_key(&[2, 0, 6, 4, 1]), Err(Refusal::KeyLength));
+/// assert_eq!(check_key(&[]), Err(Refusal::Number));
+/// assert_eq!(check_key(&[2, 0, 6, 4, 1]), Err(Refusal::Length));
 /// ```
 pub fn check_key(key: &[u8]) -> Result<Header, Refusal> {
     let (key, length) = lent(key);
@@ -144,16 +137,16 @@ pub fn check_key(key: &[u8]) -> Result<Header, Refusal> {
 
 /// **Open one**: writes the key's share of one position, value_bytes bytes.
 ///
-/// Refuses as [`check_key`], then [`Position`](Refusal::Position), [`OutputLength`](Refusal::OutputLength).
+/// Refuses as [`check_key`], then [`Position`](Refusal::Position), [`Room`](Refusal::Room).
 pub fn open_one(key: &[u8], position: u32, share: &mut [u8]) -> Result<(), Refusal> {
     let (key, length) = lent(key);
     let (share, share_length) = lent_out(share);
     answered(unsafe { raw::nsg_open_one(key, length, position, share, share_length) })
 }
 
-/// **Open all** (full-domain evaluation): writes the key's shares of all positions, positions × value_bytes bytes.
+/// **Open all** (full-domain evaluation): writes the key's shares of all positions, [`Board::table_len`] bytes.
 ///
-/// Refuses as [`check_key`], then [`OutputLength`](Refusal::OutputLength).
+/// Refuses as [`check_key`], then [`Room`](Refusal::Room).
 pub fn open_all(key: &[u8], table: &mut [u8]) -> Result<(), Refusal> {
     let (key, length) = lent(key);
     let (table, table_length) = lent_out(table);
@@ -162,8 +155,8 @@ pub fn open_all(key: &[u8], table: &mut [u8]) -> Result<(), Refusal> {
 
 /// **Join shares**: writes the XOR of the shares of all players, which stand one after another; value_bytes bytes.
 ///
-/// Refuses [`Players`](Refusal::Players), [`ValueBytes`](Refusal::ValueBytes), [`InputLength`](Refusal::InputLength),
-/// [`OutputLength`](Refusal::OutputLength).
+/// Refuses [`Players`](Refusal::Players), [`ValueBytes`](Refusal::ValueBytes), [`Lent`](Refusal::Lent),
+/// [`Room`](Refusal::Room).
 ///
 /// ```
 /// # use nosingginger::{join_shares, Refusal};
@@ -178,11 +171,12 @@ pub fn join_shares(players: u32, value_bytes: u32, shares: &[u8], value: &mut [u
     answered(unsafe { raw::nsg_join_shares(players, value_bytes, shares, shares_length, value, value_length) })
 }
 
-/// **Join keys**: writes the XOR of the tables of all keys, which stand one after another, player 0 first; positions × value_bytes bytes.
+/// **Join keys**: writes the XOR of the tables of all keys, which stand one after another, player 0 first; [`Board::table_len`]
+/// bytes. Keys of one board that come from different deals are not refused: they join to noise.
 ///
-/// Refuses as [`check_key`] but for the length and the marks, on the first key; [`KeyLength`](Refusal::KeyLength) on all; then for each key in
-/// turn as [`check_key`] but for the length, with [`KeysDiffer`](Refusal::KeysDiffer) before [`Marks`](Refusal::Marks);
-/// last [`OutputLength`](Refusal::OutputLength).
+/// Refuses as [`check_key`] but for the length and the marks, on the first key; [`Length`](Refusal::Length) on all; then for each key in
+/// turn as [`check_key`] but for the length, with [`Place`](Refusal::Place) before [`Marks`](Refusal::Marks);
+/// last [`Room`](Refusal::Room).
 pub fn join_keys(keys: &[u8], table: &mut [u8]) -> Result<(), Refusal> {
     let (keys, length) = lent(keys);
     let (table, table_length) = lent_out(table);
@@ -193,31 +187,30 @@ pub fn join_keys(keys: &[u8], table: &mut [u8]) -> Result<(), Refusal> {
 /// the key, where the grid row or the column does not exist, or where the key does not mark the column.
 ///
 /// ```
-/// # use nosingginger::{deal, held_seed, Board, Dealing, Refusal};
-/// # let board = Board { players: 2, positions: 1, width: 1, value_bytes: 1 };
-/// # let dealing = Dealing { board, point: 0, value: &[1], arrays: &[1, 2], seeds: &[7; 64], words: &[0] };
-/// # let mut keys = [0; 80];
-/// # deal(&dealing, &mut keys)?;
-/// // Player 0 marks column 0 of the only grid row.
-/// let key = &keys[..40];
-/// assert_eq!(held_seed(key, 0, 0), Some(&key[6..38]));
-/// assert_eq!(held_seed(key, 0, 1), None);
-/// # Ok::<(), Refusal>(())
+/// # use nosingginger::held_seed;
+/// // A key of player 0 of 2, on a board of one square: five header bytes, the mark of column 0, its seed, and two words of a byte.
+/// let mut key = vec![2, 0, 1, 1, 1, 0b01];
+/// let seed: Vec<u8> = (1..=32).collect();
+/// key.extend(&seed);
+/// key.extend([0x5A, 0xC3]);
+/// assert_eq!(held_seed(&key, 0, 0), Some(&seed[..]));
+/// assert_eq!(held_seed(&key, 0, 1), None);
 /// ```
 pub fn held_seed(key: &[u8], grid_row: u32, column: u32) -> Option<&[u8]> {
     let (bytes, length) = lent(key);
     match unsafe { raw::nsg_held_seed(bytes, length, grid_row, column) } {
         0 => None,
-        place => Some(&key[place as usize..][..SEED_BYTES]),
+        place => key.get(place as usize..)?.get(..SEED_BYTES),
     }
 }
 
 /// **Expand**: fills the row with the first bytes of the seed's ChaCha20 key stream (RFC 8439, nonce zero, counter from 0).
 ///
-/// Refuses [`InputLength`](Refusal::InputLength) for a seed that has not 32 bytes, [`RowLength`](Refusal::RowLength).
+/// Refuses [`Lent`](Refusal::Lent) for a seed that has not 32 bytes, [`Expansion`](Refusal::Expansion).
 ///
 /// ```
 /// # use nosingginger::{expand, Refusal};
+/// // The first key stream of the RFC's appendix A.1.
 /// let mut row = [0; 4];
 /// expand(&[0; 32], &mut row)?;
 /// assert_eq!(row, [0x76, 0xB8, 0xE0, 0xAD]);

@@ -3,6 +3,9 @@
 //! A slice is a pointer and a length in bytes. No pointer may be null, that of an empty slice too. Bytes that a function reads must not
 //! overlap those that it writes. Each answers 0 or the number of a refusal, but for [`nsg_held_seed`].
 
+/// How many numbers [`nsg_check_key`] gives.
+pub const HEADER_NUMBERS: usize = 5;
+
 extern "C" {
     /// [`key_length`](crate::key_length); the length goes to `length`.
     pub fn nsg_key_length(players: u32, positions: u32, width: u32, value_bytes: u32, length: *mut u32) -> u32;
@@ -27,7 +30,7 @@ extern "C" {
     ) -> u32;
 
     /// [`check_key`](crate::check_key); players, player, positions, width and value bytes go to `header`.
-    pub fn nsg_check_key(key: *const u8, key_length: u64, header: *mut [u32; 5]) -> u32;
+    pub fn nsg_check_key(key: *const u8, key_length: u64, header: *mut [u32; HEADER_NUMBERS]) -> u32;
 
     /// [`open_one`](crate::open_one).
     pub fn nsg_open_one(key: *const u8, key_length: u64, position: u32, out: *mut u8, out_length: u64) -> u32;

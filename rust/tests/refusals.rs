@@ -8,7 +8,18 @@ use nosingginger::{
 const BOARD: Board = Board { players: 2, positions: 6, width: 4, value_bytes: 1 };
 const KEY_BYTES: usize = 79;
 
-const DEALING: Dealing = Dealing { board: BOARD, point: 4, value: &[0xA5], arrays: &[0, 3, 1, 2], seeds: &[7; 128], words: &[9; 4] };
+/// Four seeds that differ; to what is refused it does not matter that they are not random.
+const SEEDS: [u8; 128] = {
+    let mut seeds = [0; 128];
+    let mut place = 0;
+    while place < 128 {
+        seeds[place] = place as u8;
+        place += 1;
+    }
+    seeds
+};
+
+const DEALING: Dealing = Dealing { board: BOARD, point: 4, value: &[0xA5], arrays: &[0, 3, 1, 2], seeds: &SEEDS, words: &[9, 3, 7, 1] };
 
 fn dealt() -> Vec<u8> {
     let mut keys = vec![0; 2 * KEY_BYTES];
@@ -40,9 +51,9 @@ fn of_boards() {
 fn of_dealings() {
     let mut keys = [0xC3; 2 * KEY_BYTES];
     assert_eq!(deal(&Dealing { point: 6, ..DEALING }, &mut keys), Err(Refusal::Point));
-    assert_eq!(deal(&Dealing { words: &[9; 3], ..DEALING }, &mut keys), Err(Refusal::InputLength));
-    assert_eq!(deal(&Dealing { arrays: &[0, 3, 1, 1], ..DEALING }, &mut keys), Err(Refusal::Array));
-    assert_eq!(deal(&DEALING, &mut keys[1..]), Err(Refusal::OutputLength));
+    assert_eq!(deal(&Dealing { words: &[9, 3, 7], ..DEALING }, &mut keys), Err(Refusal::Lent));
+    assert_eq!(deal(&Dealing { arrays: &[0, 3, 1, 1], ..DEALING }, &mut keys), Err(Refusal::Arrays));
+    assert_eq!(deal(&DEALING, &mut keys[1..]), Err(Refusal::Room));
     assert_eq!(keys, [0xC3; 2 * KEY_BYTES]);
 }
 
@@ -50,19 +61,19 @@ fn of_dealings() {
 fn of_keys() {
     assert_eq!(check_key(&dealt()[KEY_BYTES..]), Ok(Header { board: BOARD, player: 1 }));
     assert_eq!(check_key(&changed(4, 0x81)), Err(Refusal::ValueBytes));
-    assert_eq!(check_key(&dealt()[..4]), Err(Refusal::HeaderNumber));
+    assert_eq!(check_key(&dealt()[..4]), Err(Refusal::Number));
     assert_eq!(check_key(&changed(1, 2)), Err(Refusal::Player));
-    assert_eq!(check_key(&dealt()), Err(Refusal::KeyLength));
+    assert_eq!(check_key(&dealt()), Err(Refusal::Length));
     assert_eq!(check_key(&changed(5, 3)), Err(Refusal::Marks));
     assert_eq!(open_one(&dealt()[..KEY_BYTES], 6, &mut [0]), Err(Refusal::Position));
-    assert_eq!(open_all(&dealt()[..KEY_BYTES], &mut [0; 5]), Err(Refusal::OutputLength));
+    assert_eq!(open_all(&dealt()[..KEY_BYTES], &mut [0; 5]), Err(Refusal::Room));
 }
 
 #[test]
 fn of_joining_and_expanding() {
     let twice = [&dealt()[..KEY_BYTES], &dealt()[..KEY_BYTES]].concat();
-    assert_eq!(join_keys(&twice, &mut [0; 6]), Err(Refusal::KeysDiffer));
-    assert_eq!(join_shares(2, 1, &[1], &mut [0]), Err(Refusal::InputLength));
-    assert_eq!(expand(&[0; 31], &mut [0]), Err(Refusal::InputLength));
-    assert_eq!(expand(&[0; 32], &mut [0; 4_097]), Err(Refusal::RowLength));
+    assert_eq!(join_keys(&twice, &mut [0; 6]), Err(Refusal::Place));
+    assert_eq!(join_shares(2, 1, &[1], &mut [0]), Err(Refusal::Lent));
+    assert_eq!(expand(&[0; 31], &mut [0]), Err(Refusal::Lent));
+    assert_eq!(expand(&[0; 32], &mut [0; 4_097]), Err(Refusal::Expansion));
 }

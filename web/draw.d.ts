@@ -1,0 +1,11 @@
+// The types of draw.mjs. TypeScript finds nosingginger.d.ts under the name of the import.
+import type { Board, Dealing } from './nosingginger.js';
+
+/** Random bytes from the system, by crypto.getRandomValues, as many as are asked for. */
+export function systemBytes(length: number): Uint8Array;
+
+/**
+ * A dealing of this board with a drawn point and a drawn value that is not zero. The source of random bytes, the system where none is
+ * given, answers as many bytes as it is asked for, drawn uniformly, and never the same again.
+ */
+export function randomDealing(board: Board, random?: (length: number) => Uint8Array): Dealing;

@@ -1,0 +1,148 @@
+// The types of nosingginger.mjs. Assumes TypeScript 4.7 or later; needs neither the browser's types nor node's, and works beside both.
+
+// What only the browser's types or node's declare, so that a program without them can name it. Where they are, nothing is added to them.
+declare global {
+    interface URL {}
+    namespace WebAssembly {
+        interface Module {}
+        interface Instance {}
+    }
+}
+
+/** A refusal: document 01's number, its name, and what it means in words. */
+export interface Refusal<Num extends number, Name extends string, Words extends string> {
+    readonly number: Num;
+    readonly name: Name;
+    readonly words: Words;
+}
+
+/** All refusals; that of a number is REFUSALS[number - 1]. */
+export const REFUSALS: readonly [
+    Refusal<1, 'REFUSED_PLAYERS', 'the number of players is not 2 to 6'>,
+    Refusal<2, 'REFUSED_POSITIONS', 'the number of positions is not 1 to 65,536'>,
+    Refusal<3, 'REFUSED_WIDTH', "the grid's width is not 1 to 256">,
+    Refusal<4, 'REFUSED_VALUE_BYTES', "a value's width is not 1 to 16 bytes">,
+    Refusal<5, 'REFUSED_GRID_ROWS', 'the board has more than 256 grid rows at this width'>,
+    Refusal<6, 'REFUSED_POINT', "the piece's point is none of the board's positions">,
+    Refusal<7, 'REFUSED_LENT', 'an input does not have the length that the numbers ask for'>,
+    Refusal<8, 'REFUSED_ARRAYS', 'an array has a bit of no player, the wrong parity for its grid row, or a column twice'>,
+    Refusal<9, 'REFUSED_ROOM', 'the output is too short for what is to be written'>,
+    Refusal<10, 'REFUSED_NUMBER', "a key's header has a number that is cut short, over three groups or not in its shortest form">,
+    Refusal<11, 'REFUSED_PLAYER', "a key's player is not below its number of players">,
+    Refusal<12, 'REFUSED_LENGTH', 'a key, or all keys together, do not have the length that the header asks for'>,
+    Refusal<13, 'REFUSED_MARKS', 'a key marks another number of columns than half in some grid row, or has a spare bit set'>,
+    Refusal<14, 'REFUSED_POSITION', "the position is none of the board's">,
+    Refusal<15, 'REFUSED_PLACE', 'a key is of another board than the first, or not of the player whose place it stands in'>,
+    Refusal<16, 'REFUSED_EXPANSION', 'more than 4,096 bytes are asked of a seed'>,
+    Refusal<17, 'REFUSED_SENSOR', "the sensor is none of the spring board's 72">,
+];
+
+/** A refusal's number, 1 to 17. */
+export type RefusalNumber = (typeof REFUSALS)[number]['number'];
+/** A refusal's name, as 'REFUSED_LENGTH'. */
+export type RefusalName = (typeof REFUSALS)[number]['name'];
+/** A refusal in words. */
+export type RefusalWords = (typeof REFUSALS)[number]['words'];
+
+/** A call that was refused. A lent output is as it was. */
+export class Refused extends Error {
+    constructor(number: RefusalNumber);
+    readonly number: RefusalNumber;
+    readonly name: RefusalName;
+    readonly words: RefusalWords;
+}
+
+/** A board's four numbers. */
+export interface Board {
+    /** 2 to 6 */
+    players: number;
+    /** the squares, 1 to 65,536 */
+    positions: number;
+    /** of the grid, 1 to 256; chooseWidth gives a good one */
+    width: number;
+    /** bytes of the piece's value, 1 to 16 */
+    valueBytes: number;
+}
+
+/** What a key's header says: the board, and whose key it is. */
+export interface Header extends Board {
+    /** whose key it is, from 0 on */
+    player: number;
+}
+
+/**
+ * A dealing: the board, the piece, and what is drawn. With J = 2 to the power of players - 1 columns, and as many grid rows as
+ * positions / width rounded up.
+ */
+export interface Dealing extends Board {
+    /** the piece's position */
+    point: number;
+    /** the piece's value, valueBytes bytes */
+    value: Uint8Array;
+    /** J bytes for each grid row: each column of the right parity once, in an order drawn uniformly */
+    arrays: Uint8Array;
+    /** 32 random bytes for each column of each grid row, never used again */
+    seeds: Uint8Array;
+    /** (J - 1) × width × valueBytes random bytes */
+    words: Uint8Array;
+}
+
+/**
+ * Makes the operations from the WebAssembly module. The source may be
+ *   - nothing: the file nosingginger.wasm that lies beside nosingginger.mjs, wherever that is;
+ *   - the module's bytes, or the compiled module;
+ *   - a URL: file: (in node), http:, https:, data: or blob:;
+ *   - a string. In node it is a path, unless it is a whole URL; a relative one leads from the folder that the program was started in. In a
+ *     browser it is what fetch takes: a relative one leads from the page's base address, in a worker from the worker's script.
+ * Where nothing can be had, or something else than Nosingginger's module, the promise is rejected.
+ */
+export function load(source?: ArrayBuffer | ArrayBufferView | (object & WebAssembly.Module) | URL | string): Promise<Nosingginger>;
+
+/** Makes the operations from the module's bytes in base64, as a page has them that is one file. */
+export function loadBase64(text: string): Promise<Nosingginger>;
+
+/**
+ * The operations. Every call answers its result, or throws Refused with the first number that fits. A number that 32 bits cannot hold is a
+ * RangeError, and what is no Uint8Array a TypeError. A lent output is written from its front on, and the answer is that part of it; without
+ * one, the answer is a new array of the right length.
+ */
+export class Nosingginger {
+    /** load makes one. */
+    constructor(instance: WebAssembly.Instance);
+
+    /** KEY LENGTH: the bytes of each player's key. Refusals: 1 to 5. */
+    keyLength(board: Board): number;
+
+    /** DEAL: the keys of all players one after another, player 0 first. Refusals: 1 to 9. */
+    deal(dealing: Dealing, out?: Uint8Array): Uint8Array;
+
+    /** CHECK KEY: the header's numbers of an accepted key. Refusals: 10, 1 to 5, 11, 12, 13. */
+    checkKey(key: Uint8Array): Header;
+
+    /** OPEN ONE: the key's share of one position, valueBytes bytes. Refusals: those of checkKey, 14, 9. */
+    openOne(key: Uint8Array, position: number, out?: Uint8Array): Uint8Array;
+
+    /** OPEN ALL: the key's share of each position from 0 on, positions × valueBytes bytes. Refusals: those of checkKey, 9. */
+    openAll(key: Uint8Array, out?: Uint8Array): Uint8Array;
+
+    /** JOIN SHARES: the XOR of all players' shares, which stand one after another. Refusals: 1, 4, 7, 9. */
+    joinShares(given: { players: number, valueBytes: number, shares: Uint8Array }, out?: Uint8Array): Uint8Array;
+
+    /**
+     * JOIN KEYS: the joined table of all players' keys, which stand one after another, player 0's first. Keys of different dealings are not
+     * refused. Refusals: for the first key 10, 1 to 5, 11; 12; then for each key 10, 1 to 5, 11, 15, 13; last 9.
+     */
+    joinKeys(keys: Uint8Array, out?: Uint8Array): Uint8Array;
+
+    /** HELD SEED: the part of the lent key that is the seed of a grid row and a column; empty where there is none. It is not refused. */
+    heldSeed(key: Uint8Array, gridRow: number, column: number): Uint8Array;
+
+    /** EXPAND: fills the output, of at most 4,096 bytes, with the first bytes of the seed's key stream. Refusals: 7, 16. */
+    expand(seed: Uint8Array, out: Uint8Array): Uint8Array;
+
+    /** CHOOSE WIDTH: a grid's width for a board, for which keys are about as short as they can be. Refusals: 1, 2. */
+    chooseWidth(board: { players: number, positions: number }): number;
+
+    /** SENSOR POSITION: the position that a sensor of the spring board, 0 to 71, lies under. Refusal: 17. */
+    sensorPosition(sensor: number): number;
+}
