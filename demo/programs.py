@@ -21,11 +21,11 @@ PROGRAM_BYTES = 65536       # what dealer and joiner read and write at most
 ROOM = 9                    # the refusal of what is longer than that
 MOST_KEY_BYTES = 263176     # of any board: one byte more, and no key is so long
 SIGNALS = [signal.SIGINT, signal.SIGTERM, signal.SIGHUP]
-PATIENCE = 3                # seconds that a child has to end by itself
+PATIENCE = 2                # seconds that a child has to end by itself
 
 FIRST_TIME = """\
-What the hunt needs is proved and built first. From nothing this takes %s on a machine with two processors. Nothing needs to
-be done meanwhile; what is proved is kept, and the next hunt starts at once.
+What the hunt needs is proved and built first. From nothing this takes some minutes (%s on a machine with two processors).
+Nothing needs to be done meanwhile; what is proved is kept, and the next hunt starts at once.
 """
 
 
@@ -64,7 +64,6 @@ def start(command, **how):
                                  preexec_fn=lambda: signal.pthread_sigmask(signal.SIG_SETMASK, before), **how)
         CHILDREN.append(child)
     except OSError as error:
-        signal.pthread_sigmask(signal.SIG_SETMASK, before)
         fail("%s cannot be run: %s" % (command[0], reason(error)))
     finally:
         signal.pthread_sigmask(signal.SIG_SETMASK, before)
