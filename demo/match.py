@@ -1,7 +1,7 @@
-"""A published match from whatever a person has of it: keys found in files and texts, each checked, put in the players' order, and joined. The same
-as web/match.mjs, step by step and with the sentences of web/words.mjs; tests/match holds both to the same cases. What a key is and what keys join to
-are answers of the library's calls (class Library of demo/programs.py); worked out here is which bytes are a key, and how a person would name
-what is wrong. Assumes nothing of the bytes; nothing here fails for what they are."""
+"""A published match from whatever a person has of it: keys found in files and texts, each checked, put in the players' order, and joined. The
+same as web/match.mjs, step by step and with the sentences of web/words.mjs; tests/match holds both to the same cases. What a key is and what
+keys join to are answers of the library's calls (class Library of demo/programs.py); worked out here is which bytes are a key, and how a
+person would name what is wrong. Assumes nothing of the bytes; nothing here fails for what they are."""
 import collections
 import hashlib
 import json
@@ -81,7 +81,8 @@ COMMENT = re.compile("^(?:#|//)")
 NO_DIGIT = re.compile("[^0-9A-Fa-f]")
 CONTROL = re.compile("[\u0000-\u0008\u000E-\u001F\u007F]")
 
-# One line of a text: its number, the player that it says it is of, whether a key begins with it, its hexadecimal digits, and a sign that is none.
+# One line of a text: its number, the player that it says it is of, whether a key begins with it, its hexadecimal digits, and a sign that is
+# none.
 Line = collections.namedtuple("Line", "number label begins digits other")
 # A key that was found: its bytes, where, and the player that the line says it is of.
 Found = collections.namedtuple("Found", "bytes origin label")
@@ -170,7 +171,8 @@ def keys_of_text(library, text, name=""):
 
 
 def text_of(given):
-    """The text that these bytes are, in UTF-8 or, with its mark, UTF-16; None where they are none. A binary key never begins as a text does."""
+    """The text that these bytes are, in UTF-8 or, with its mark, UTF-16; None where they are none. A binary key never begins as a text
+    does."""
     wide = {b"\xFF\xFE": "utf-16-le", b"\xFE\xFF": "utf-16-be"}.get(given[:2])
     try:
         text = given.decode(wide or "utf-8")
@@ -258,8 +260,8 @@ def board_of(headers):
 
 
 class Key:
-    """A key beside the others of a match. `header` or `refusal` is Check key's answer; `state` is used, copy, conflict, other or refused; `words`
-    is what a person is to be told of it, or None."""
+    """A key beside the others of a match. `header` or `refusal` is Check key's answer; `state` is used, copy, conflict, other or refused;
+    `words` is what a person is to be told of it, or None."""
 
     def __init__(self, library, found):
         self.bytes, self.origin, self.label = found
@@ -283,13 +285,14 @@ class Key:
             self.words = sentence("other label", label=self.label, player=player)
 
 
-# The keys as given, each standing; the match's board; its keys by player, None where one is missing; who is missing, and that in words; the joined
-# table, or the library's refusal to join what is here.
+# The keys as given, each standing; the match's board; its keys by player, None where one is missing; who is missing, and that in words; the
+# joined table, or the library's refusal to join what is here.
 Examined = collections.namedtuple("Examined", "keys board players missing missing_words joined refusal")
 
 
 def examine(library, found):
-    """Checks each key, puts those of the match in the players' order, and joins them when none is missing and no two speak against each other."""
+    """Checks each key, puts those of the match in the players' order, and joins them when none is missing and no two speak against each
+    other."""
     keys = [Key(library, one) for one in found]
     board = board_of([key.header for key in keys if key.header])
     for place, key in enumerate(keys):
@@ -299,9 +302,9 @@ def examine(library, found):
     used = {key.header.player: key for key in keys if key.state == "used"}
     players = [used.get(player) for player in range(board.players)]
     missing = [player for player, key in enumerate(players) if key is None]
-    missing_words = None
-    if missing:
-        missing_words = sentence("missing", player=missing[0]) if len(missing) == 1 else sentence("several missing", players=listed(missing))
+    missing_words = sentence("missing", player=missing[0]) if len(missing) == 1 else None
+    if len(missing) > 1:
+        missing_words = sentence("several missing", players=listed(missing))
     in_order = sorted((key for key in keys if key.state in ("used", "conflict")), key=lambda key: key.header.player)
     joined, refusal = library.join(b"".join(key.bytes for key in in_order))
     return Examined(keys, board, players, missing, missing_words, joined, refusal)

@@ -1,7 +1,7 @@
 /* A player's phone and the board's tables for demo/hunt, over the proved library. Standard input to standard output:
-     player check           reads keys, in front of each a line with its length in bytes; writes at once for each a line with its five header numbers
-     player open            reads a key; writes its five header numbers on a line, then a line for each position with its share in hexadecimal
-     player join            reads all keys of a match one after another; writes a line for each position with its joined value in hexadecimal
+     player check           reads keys, in front of each a line with its length in bytes; writes at once for each its five header numbers
+     player open            reads a key; writes its five header numbers on a line, then each position's share in hexadecimal, one on a line
+     player join            reads all keys of a match one after another; writes each position's joined value in hexadecimal, one on a line
      player length P N M W  writes the length of a key for P players, N positions, width M and values of W bytes
      player width P N       writes the grid's width for P players and N positions
      player expand N        reads a seed; writes the first N bytes of its row in hexadecimal
@@ -91,7 +91,8 @@ static int join_keys(void)
 
 static int key_length(char **words)
 {
-    uint32_t length = 0, number = nsg_key_length(number_of(words[0]), number_of(words[1]), number_of(words[2]), number_of(words[3]), &length);
+    uint32_t players = number_of(words[0]), positions = number_of(words[1]), width = number_of(words[2]), value_bytes = number_of(words[3]);
+    uint32_t length = 0, number = nsg_key_length(players, positions, width, value_bytes, &length);
     if (number != NSG_ACCEPTED)
         return refused(number);
     printf("%u\n", (unsigned)length);

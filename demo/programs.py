@@ -1,5 +1,5 @@
-"""The programs that the hunt runs: rt, make and the compiler, which prove and build, and what they build: dealer, joiner and player. Each is started
-in a process group of its own, so that a hunt that is broken off leaves nothing behind. Assumes a POSIX system."""
+"""The programs that the hunt runs: rt, make and the compiler, which prove and build, and what they build: dealer, joiner and player. Each is
+started in a process group of its own, so that a hunt that is broken off leaves nothing behind. Assumes a POSIX system."""
 import os
 import re
 import shlex
@@ -57,7 +57,8 @@ CHILDREN = []
 
 
 def start(command, **how):
-    """Starts a child in a process group of its own. A signal that comes meanwhile waits until the child is known, so that it is ended too."""
+    """Starts a child in a process group of its own. A signal that comes meanwhile waits until the child is known, so that it is ended
+    too."""
     before = signal.pthread_sigmask(signal.SIG_BLOCK, SIGNALS)
     try:
         child = subprocess.Popen(command, start_new_session=True, stdout=subprocess.PIPE,
@@ -216,8 +217,8 @@ def player(words, given=b""):
 
 
 class Library:
-    """The calls that match.py asks, each as its answer and None, or None and the refusal's number. Keys are checked by one player that stays, as
-    there may be many of them."""
+    """The calls that match.py asks, each as its answer and None, or None and the refusal's number. Keys are checked by one player that stays,
+    as there may be many of them."""
 
     def __init__(self):
         self.checker = None

@@ -4,19 +4,20 @@ import re
 
 GOALS = ("dealer", "joiner", "nosingginger_c")     # the two programs and the C library: what the hunt runs
 
-# Seconds that rt took for each crate in one run on two processors. Only how they compare with each other matters, and that little: a crate that is
-# not named here counts as the usual one. Beside another run (tests/hunt/second-run.txt, 282 seconds) the time left was wrong by 23 seconds on
-# average; by the sizes of the crates' files it would have been by 77, and with all crates alike by 49.
+# Seconds that rt took for each crate in one run on two processors. Only how they compare with each other matters, and that little: a crate
+# that is not named here counts as the usual one. Beside another run (tests/hunt/second-run.txt, 282 seconds) the time left was wrong by 23
+# seconds on average; by the sizes of the crates' files it would have been by 77, and with all crates alike by 49.
 SECONDS = {
-    "xor": 3, "writer": 4, "reader": 2, "chacha20": 11, "grid": 7, "digits": 3, "chacha20_lanes": 7, "chacha20_words": 7, "text": 7, "keys": 3,
-    "grid_arrays": 5, "chacha20_lane_blocks": 7, "chacha20_blocks": 6, "key_header": 13, "deal_marks": 6, "seed_row": 9, "key_lengths": 4,
-    "seed_rows": 8, "key_marks": 5, "deal_grid_rows": 11, "key_check": 9, "open_grid_row": 11, "deal_last_word": 8, "call_answers": 3, "open_key": 9,
-    "deal_keys": 9, "join_shares_call": 6, "deal_call": 9, "open_call": 10, "program_output": 5, "join_keys_call": 11, "nosingginger": 8,
-    "promises": 5, "program_deal": 13, "program_join": 11, "dealer": 8, "joiner": 8, "nosingginger_c": 10,
+    "xor": 3, "writer": 4, "reader": 2, "chacha20": 11, "grid": 7, "digits": 3, "chacha20_lanes": 7, "chacha20_words": 7, "text": 7,
+    "keys": 3, "grid_arrays": 5, "chacha20_lane_blocks": 7, "chacha20_blocks": 6, "key_header": 13, "deal_marks": 6, "seed_row": 9,
+    "key_lengths": 4, "seed_rows": 8, "key_marks": 5, "deal_grid_rows": 11, "key_check": 9, "open_grid_row": 11, "deal_last_word": 8,
+    "call_answers": 3, "open_key": 9, "deal_keys": 9, "join_shares_call": 6, "deal_call": 9, "open_call": 10, "program_output": 5,
+    "join_keys_call": 11, "nosingginger": 8, "promises": 5, "program_deal": 13, "program_join": 11, "dealer": 8, "joiner": 8,
+    "nosingginger_c": 10,
 }
 USUAL = 7
-# That run took 199 seconds for all of them together, as crates were proved side by side. Its pace counts as much as this many seconds of work that
-# were measured, so that the first crates alone, quick or slow, do not make the time left jump.
+# That run took 199 seconds for all of them together, as crates were proved side by side. Its pace counts as much as this many seconds of
+# work that were measured, so that the first crates alone, quick or slow, do not make the time left jump.
 PACE = 199 / sum(SECONDS.values())
 BELIEVED = 60
 

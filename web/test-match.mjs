@@ -1,5 +1,5 @@
-// Tests of what is found in files and texts, how keys are examined, and their fingerprints, in node. The cases and edits of tests/match/cases.json
-// are shared with demo/match.py; tests/match/test_match.py says how they are written. Assumes that targets/build has run.
+// Tests of what is found in files and texts, how keys are examined, and their fingerprints, in node. The cases and edits of
+// tests/match/cases.json are shared with demo/match.py; tests/match/test_match.py says how they are written. Assumes that targets/build has run.
 import assert from 'node:assert/strict';
 import { createHash } from 'node:crypto';
 import { readFileSync } from 'node:fs';
@@ -81,6 +81,7 @@ const shared = JSON.parse(readFileSync(new URL('../tests/match/cases.json', impo
 const SENSORS = 72;
 const sensorAt = new Map(Array.from({ length: SENSORS }, (_, sensor) => [library.sensorPosition(sensor), sensor]));
 const WAYS = {
+    plain: (digits) => digits,
     lower: (digits) => digits.toLowerCase(),
     wrap: (digits) => digits.match(/.{1,60}/g).join('\n'),
     'odd wrap': (digits) => digits.match(/.{1,37}/g).join('\n'),
@@ -91,7 +92,7 @@ const WAYS = {
 
 /** A text with the keys that it names. */
 function filled(template) {
-    return template.replace(/\{([^{}|]+)(?:\|([^{}|]+))?\}/g, (_, name, way) => (way === undefined ? shared.keys[name] : WAYS[way](shared.keys[name])));
+    return template.replace(/\{([^{}|]+)(?:\|([^{}|]+))?\}/g, (_, name, way = 'plain') => WAYS[way](shared.keys[name]));
 }
 
 function encoded(text, encoding = 'utf-8') {
@@ -129,7 +130,8 @@ for (const wanted of shared.cases) {
     test(`shared case: ${wanted.name}`, () => {
         const files = wanted.files.map((file) => ({ name: file.name, content: contentOf(file) }));
         assert.deepEqual(outcomeOf(files), {
-            keys: wanted.keys.map((key) => ({ is: shared.keys[key.is], from: key.from, state: key.state, refusal: key.refusal ?? null, says: said(key.says) })),
+            keys: wanted.keys.map(({ is, from, state, refusal, says }) =>
+                ({ is: shared.keys[is], from, state, refusal: refusal ?? null, says: said(says) })),
             problems: wanted.problems.map(said), missing: said(wanted.missing), refusal: wanted.refusal ?? null,
             joined: wanted.joined ?? null, shows: said(wanted.shows),
         });

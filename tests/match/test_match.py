@@ -1,11 +1,12 @@
 #!/usr/bin/env python3
-"""Holds demo/match.py to the shared cases of cases.json, which web/test-match.mjs holds web/match.mjs to, and to random edits, on which both must find
-the same. Assumes that the hunt's programs are built. Any failure makes the status non-zero.
+"""Holds demo/match.py to the shared cases of cases.json, which web/test-match.mjs holds web/match.mjs to, and to random edits, on which both
+must find the same. Assumes that the hunt's programs are built. Any failure makes the status non-zero.
 
-A case has files, each with a name and its text (in UTF-8 or in the encoding named) or its bytes in hexadecimal, as often as `times` says. {a0} stands for
-the hexadecimal digits of the key of that name, {a0|lower} and the like for another way of writing them. What must be found: each key by name,
-where it was, its state, refusal and sentence; the sentences of what could not be read; who is missing; the refusal to join, or the joined table
-and what it shows. A sentence is its name in web/words.mjs and what stands in its braces."""
+A case has files, each with a name and its text (in UTF-8 or in the encoding named) or its bytes in hexadecimal, as often as `times` says.
+{a0} stands for the hexadecimal digits of the key of that name, {a0|lower} and the like for another way of writing them. What must be found:
+each key by name, where it was, its state, refusal and sentence; the sentences of what could not be read; who is missing; the refusal to join,
+or the joined table and what it shows. A sentence is its name in web/words.mjs and what stands in its braces. The digest of the edits is that of
+what both implementations found when they were written; one that finds something else says the digest that it gets."""
 import hashlib
 import json
 import os
@@ -78,7 +79,8 @@ def outcome(examined, problems):
     board = examined.board
     sensor_of = SENSORS.index if board and board.positions == len(SENSORS) else lambda position: None
     return {
-        "keys": [{"is": key.bytes, "from": key.origin, "state": key.state, "refusal": key.refusal, "says": key.words} for key in examined.keys],
+        "keys": [{"is": key.bytes, "from": key.origin, "state": key.state, "refusal": key.refusal, "says": key.words}
+                 for key in examined.keys],
         "problems": problems, "missing": examined.missing_words, "refusal": examined.refusal,
         "joined": examined.joined and examined.joined.hex().upper(),
         "shows": examined.joined and match.joined_words(examined.joined, board, sensor_of),
@@ -87,8 +89,8 @@ def outcome(examined, problems):
 
 def wanted(case):
     return {
-        "keys": [{"is": KEYS[key["is"]], "from": key["from"], "state": key["state"], "refusal": key.get("refusal"), "says": said(key.get("says"))}
-                 for key in case["keys"]],
+        "keys": [{"is": KEYS[key["is"]], "from": key["from"], "state": key["state"], "refusal": key.get("refusal"),
+                  "says": said(key.get("says"))} for key in case["keys"]],
         "problems": [said(sentence) for sentence in case["problems"]], "missing": said(case.get("missing")), "refusal": case.get("refusal"),
         "joined": case.get("joined"), "shows": said(case.get("shows")),
     }
@@ -101,8 +103,9 @@ def check_cases(library):
         for part in must:
             if found[part] != must[part]:
                 sys.exit("test_match: %s: %s are\n  %r\nand must be\n  %r" % (case["name"], part, found[part], must[part]))
-    said_names = {name for case in SHARED["cases"] for sentence in
-                  case["problems"] + [key.get("says") for key in case["keys"]] + [case.get("missing"), case.get("shows")] for name in names_in(sentence)}
+    sentences = [sentence for case in SHARED["cases"] for sentence in
+                 case["problems"] + [key.get("says") for key in case["keys"]] + [case.get("missing"), case.get("shows")]]
+    said_names = {name for sentence in sentences for name in names_in(sentence)}
     if said_names != set(match.WORDS) - ELSEWHERE:
         sys.exit("test_match: no case says, or words.mjs lacks: %s" % ", ".join(said_names ^ (set(match.WORDS) - ELSEWHERE)))
 
