@@ -46,7 +46,7 @@ function counted(number, one, more = `${one}s`) {
 
 /** A refusal as the one list of them has it, for whoever wants the number. */
 function refusalWords({ number, name, words }) {
-    return `Refusal ${number}, ${name.replace('REFUSED_', '')}: ${words}.`;
+    return `Refusal ${number}, ${name}: ${words}.`;
 }
 
 // ---- keys ----
@@ -425,16 +425,9 @@ function leaveExample() {
     state.aside = null;
 }
 
-function systemBytes(length) {
-    const bytes = new Uint8Array(length);
-    // A browser gives at most 65,536 random bytes at once.
-    for (let at = 0; at < length; at += 65536) crypto.getRandomValues(bytes.subarray(at, at + 65536));
-    return bytes;
-}
-
 function springBoard(players) {
     const board = { players, positions: SENSORS, width: library.chooseWidth({ players, positions: SENSORS }), valueBytes: 1 };
-    return randomDealing(board, systemBytes);
+    return randomDealing(board);
 }
 
 function save() {
@@ -458,7 +451,7 @@ function shape(tag, attributes) {
 /** The picture on the empty page: three players' noise above, and below what they are together; a drawn board of 24 squares. */
 function drawPicture() {
     const [lines, along, side] = [4, 6, 12];
-    const dealing = randomDealing({ players: 3, positions: lines * along, width: along, valueBytes: 1 }, systemBytes);
+    const dealing = randomDealing({ players: 3, positions: lines * along, width: along, valueBytes: 1 });
     const keys = keysApart(library, library.deal(dealing));
     const board = (table, left, top, size, lookOf) => Array.from(table, (byte, position) => shape('rect', { ...lookOf(byte, position), rx: 2,
         x: left + (position % along) * size + 1, y: top + Math.floor(position / along) * size + 1, width: size - 2, height: size - 2 }));

@@ -65,7 +65,7 @@ function pieceWords(dealing) {
 
 const refusalWords = (number) => {
     const { name, words } = REFUSALS[number - 1];
-    return `Refusal ${number}, ${name.replace('REFUSED_', '')}: ${words}.`;
+    return `Refusal ${number}, ${name}: ${words}.`;
 };
 const answer = (page) => page.text('#answer');
 const keyLines = (page) => page.run(() => [...document.querySelectorAll('#keys li')].map((item) =>

@@ -17,10 +17,10 @@ macro_rules! refusals {
             /// All refusals; that of number n stands at place n − 1.
             pub const ALL: [Refusal; [$($number),*].len()] = [$(Refusal::$variant),*];
 
-            /// The refusal's name, which is the same in every language: C puts `NSG_REFUSED_` before it.
+            /// The refusal's name, which is the same in every language, as `REFUSED_LENGTH`; C's macros put `NSG_` before it.
             pub const fn name(self) -> &'static str {
                 match self {
-                    $(Refusal::$variant => $name,)*
+                    $(Refusal::$variant => concat!("REFUSED_", $name),)*
                 }
             }
 

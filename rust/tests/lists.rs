@@ -24,8 +24,9 @@ fn refusals_are_those_of_the_list() {
     let lines: Vec<&str> = REFUSALS.lines().filter(|line| !line.starts_with('#')).collect();
     assert_eq!(lines.len(), Refusal::ALL.len());
     for (line, refusal) in lines.iter().zip(Refusal::ALL) {
-        assert_eq!(*line, format!("{} {} {refusal}", refusal.number(), refusal.name()));
-        assert_eq!(refusal.name(), listed_name(refusal));
+        let name = listed_name(refusal);
+        assert_eq!(*line, format!("{} {name} {refusal}", refusal.number()));
+        assert_eq!(refusal.name(), format!("REFUSED_{name}"));
         assert_eq!(refusal.words(), refusal.to_string());
     }
 }
