@@ -11,6 +11,7 @@ const SQUARES_SHOWN = 256;
 const SENSORS = 72;
 const SMALL_BYTES = 2;
 const DEALT_HERE = 'An example: your browser hid this piece and dealt these keys just now.';
+const ALWAYS_THE_SAME = 'An example: a board of six squares for two players, always the same.';
 
 const library = await loadBase64(element('module').textContent).catch((error) => {
     element('problems').replaceChildren(make('li', {}, `The library cannot be opened in this browser: ${error.message}.`));
@@ -96,17 +97,19 @@ function holders() {
 function keyLine({ state: standing, words, header, from, fingerprint: print }) {
     const fits = standing === 'used' || standing === 'copy';
     const whose = header === null || standing === 'other' ? [] : [make('strong', {}, `Player ${header.player}`), ' '];
-    return [...whose, make('span', { className: fits ? 'fits' : 'fails' }, fits ? '\u2713' : '\u2717', make('span', { className: 'unseen' }, fits ? ' fits' : ' does not fit')),
-        ' ', make('span', { className: 'from' }, from), ' ',
-        standing === 'used' ? make('span', { className: 'print' }, `${print.slice(0, 4)}\u2026`) : make('span', { className: 'wrong' }, capital(words))];
+    const [look, sign, heard] = fits ? ['fits', '\u2713', ' fits'] : ['fails', '\u2717', ' does not fit'];
+    const rest = standing === 'used' ? make('span', { className: 'print' }, `${print.slice(0, 4)}\u2026`)
+        : make('span', { className: 'wrong' }, capital(words));
+    return [...whose, make('span', { className: look }, sign, make('span', { className: 'unseen' }, heard)), ' ',
+        make('span', { className: 'from' }, from), ' ', rest];
 }
 
 function keyItem(key) {
     const { id, state: standing, words, header, refusal, bytes, from, fingerprint: print } = key;
     const numbers = [['Fingerprint (SHA-256)', print], ['Length', counted(bytes.length, 'byte')]];
     if (header !== null) {
-        numbers.push(['Board', `${WORDS.numbers[header.players]} players, ${counted(header.positions, 'square')}, values of ${counted(header.valueBytes, 'byte')}`],
-            ['Grid', `${header.width} wide`]);
+        const [players, squares, bytesOfValue] = [WORDS.numbers[header.players], counted(header.positions, 'square'), counted(header.valueBytes, 'byte')];
+        numbers.push(['Board', `${players} players, ${squares}, values of ${bytesOfValue}`], ['Grid', `${header.width} wide`]);
     }
     const notes = [standing === 'used' && words !== null ? `${capital(words)}.` : null, refusal === null ? null : refusalWords(refusal)];
     return make('li', { className: standing }, make('details', { aria: { 'data-key': id } },
@@ -195,8 +198,9 @@ function showTable(id, table, board, label, isJoined) {
     const focused = place.contains(document.activeElement) ? Number(document.activeElement.dataset.position) : null;
     const last = Math.min(board.positions, state.first + SQUARES_SHOWN);
     const columns = Array.from({ length: Math.min(SQUARES_IN_A_LINE, board.positions) }, (_, column) => column);
-    const heading = make('tr', { aria: { role: 'row' } }, make('th', { className: 'corner', scope: 'col', aria: { role: 'columnheader', 'aria-label': 'Line' } }),
-        ...columns.map((column) => make('th', { scope: 'col', aria: { role: 'columnheader', 'aria-label': `Column ${column}` } }, String(column))));
+    const columnHead = (name, className, ...words) => make('th', { className, scope: 'col', aria: { role: 'columnheader', 'aria-label': name } }, ...words);
+    const heading = make('tr', { aria: { role: 'row' } }, columnHead('Line', 'corner'),
+        ...columns.map((column) => columnHead(`Column ${column}`, '', String(column))));
     const lines = [];
     for (let start = state.first; start < last; start += SQUARES_IN_A_LINE) lines.push(lineOf(table, board, start, last, isJoined));
     const grid = make('table', { className: board.valueBytes > SMALL_BYTES ? 'squares tall' : 'squares', onkeydown: moveInGrid, onclick: chooseInGrid,
@@ -276,7 +280,9 @@ function verdict() {
     }
     const wrong = keys.filter((key) => ['refused', 'conflict'].includes(key.state));
     const [first] = wrong.filter((key) => key.state === 'conflict').concat(wrong);
-    if (first?.state === 'conflict') return { looks: 'warning', words: `${capital(first.words)}.`, beside: 'Remove the one that does not belong to the match.', refusal };
+    if (first?.state === 'conflict') {
+        return { looks: 'warning', words: `${capital(first.words)}.`, beside: 'Remove the one that does not belong to the match.', refusal };
+    }
     if (missingWords !== null) {
         const beside = first === undefined ? 'The board appears when the keys of all players are here.' : `${first.from}: ${first.words}.`;
         return { looks: first === undefined ? 'waiting' : 'warning', words: `${capital(missingWords)}.`, beside, refusal };
@@ -371,7 +377,8 @@ function showShares() {
         make('thead', {}, make('tr', {}, make('th', { scope: 'col' }, 'Whose key'), make('th', { scope: 'col' }, 'What it says, in hexadecimal'))),
         make('tbody', {}, ...shares.map(({ player, share }) => row(`Player ${player}`, share))),
         ...(isWhole ? [make('tfoot', {}, row('Together', value))] : []));
-    say('square-words', isWhole ? `Together they are ${hexadecimal(value)}.` : `${capital(WORDS.numbers[here.length])} of ${WORDS.numbers[board.players]} keys. All are needed.`);
+    say('square-words', isWhole ? `Together they are ${hexadecimal(value)}.`
+        : `${capital(WORDS.numbers[here.length])} of ${WORDS.numbers[board.players]} keys. All are needed.`);
 }
 
 function showFingerprints() {
@@ -492,7 +499,7 @@ document.addEventListener('drop', (event) => {
 });
 element('spring').addEventListener('click', () => showExample(springBoard(4), 'dealt here', DEALT_HERE));
 element('spring-six').addEventListener('click', () => showExample(springBoard(6), 'dealt here', DEALT_HERE));
-element('small').addEventListener('click', () => showExample(printedDeal(), 'the small board', 'An example: a board of six squares for two players, always the same.'));
+element('small').addEventListener('click', () => showExample(printedDeal(), 'the small board', ALWAYS_THE_SAME));
 element('leave-example').addEventListener('click', () => {
     leaveExample();
     keysChanged();

@@ -412,18 +412,34 @@ onPage('a drawn spring board has one piece', async (page) => {
     assert.ok(seen.size > 1);
 });
 
-onPage('a match is saved as text, and that text is the match', async (page) => {
-    const keys = springKeys(5);
+/** Presses the button that saves, and waits for the file. */
+async function savedMatch(page) {
     const saved = `${files}match.txt`;
     rmSync(saved, { force: true });
     await browser.saveTo(files);
-    await give(page, [stored('all.keys', Buffer.concat(keys.slice().reverse()))], 5);
     await page.click('#save');
     for (let times = 0; !existsSync(saved) && times < 200; times += 1) await new Promise((resolve) => { setTimeout(resolve, 25); });
-    const text = readFileSync(saved, 'utf8');
+    page.requests.splice(1);
+    return saved;
+}
+
+onPage('a match is saved as text, and that text is the match', async (page) => {
+    const keys = springKeys(5);
+    await give(page, [stored('all.keys', Buffer.concat(keys.slice().reverse()))], 5);
+    const text = readFileSync(await savedMatch(page), 'utf8');
     assert.equal(text, matchText(keys));
     assert.deepEqual(keysOfText(library, text).keys.map(({ bytes }) => bytes), keys);
-    page.requests.splice(1);
+});
+
+onPage('README\u2019s first minute: deal a spring board, save it, close the example, reopen it', async (page) => {
+    await page.click('#spring');
+    const [found, prints] = [await answer(page), (await keyLines(page)).map((line) => line.slice(-5))];
+    const saved = await savedMatch(page);
+    await page.click('#leave-example');
+    assert.equal(await isShown(page, '#result'), false);
+    await give(page, [saved], 4);
+    assert.equal(await answer(page), found);
+    assert.deepEqual((await keyLines(page)).map((line) => line.slice(-5)), prints);
 });
 
 onPage('on paper: the answer, the board and every fingerprint whole', async (page) => {
