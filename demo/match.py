@@ -10,6 +10,8 @@ import re
 
 MOST_KEYS = 6
 SQUARES_IN_A_LINE = 8
+# Of a text that has nothing to do with keys not every line is named.
+MOST_WRONG = 5
 # All keys of the largest board have 1,579,056 bytes; written as text, they are some times longer.
 MOST_FILE_BYTES = 16 * 1024 * 1024
 # Refusals of refusals.txt that are told from each other here.
@@ -167,6 +169,8 @@ def keys_of_text(library, text, name=""):
         keys += [Found(key, where_of(name, [line]), label if line is lines[0] else None) for line, key in found]
     if not keys and not problems:
         problems.append(sentence("empty", where=name or "the text"))
+    if len(problems) > MOST_WRONG:
+        problems[MOST_WRONG:] = [sentence("more wrong", where=name or "the text", count=len(problems) - MOST_WRONG)]
     return keys, problems
 
 

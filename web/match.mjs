@@ -8,6 +8,8 @@ import { WORDS } from './words.mjs';
 const MOST_KEYS = 6;
 const MOST_SHARE_BYTES = 16;
 const SQUARES_IN_A_LINE = 8;
+// Of a text that has nothing to do with keys not every line is named.
+const MOST_WRONG = 5;
 // All keys of the largest board have 1,579,056 bytes; written as text, they are some times longer.
 export const MOST_FILE_BYTES = 16 * 1024 * 1024;
 
@@ -85,14 +87,21 @@ const UNSEEN = /[\u200B-\u200D\u2060\uFEFF]/g;
 const SPACES = /[\t\u00A0\u1680\u2000-\u200A\u202F\u205F\u3000]/g;
 // What people and programs put around a line: mail's quotes, bullets, quotation marks, brackets, fences.
 const BEFORE = /^[ >|*\u2022\u2013"'\u201C\u201D\u201E\u2018\u2019\u00AB\u00BB`[\](){}-]+/;
-const BEHIND = /[ "'\u201C\u201D\u2018\u2019\u00AB\u00BB`[\](){},;.]+$/;
+const BEHIND = ' "\'\u201C\u201D\u2018\u2019\u00AB\u00BB`[](){},;.';
 const LABEL = /^player *#?([0-9]{1,2})["'\u201D\u2019]*(?:s? key)? *[:=.)-]* */i;
 const NUMBERED = /^(?:[0-9]{1,3}(?:[.)\]]+:? *|: +)|#[0-9]{1,3}[.:)\]]* +)/;
 const COMMENT = /^(?:#|\/\/)/;
 
+/** A line without what people put around it. (A pattern for its end would look at a long row of spaces from each of them.) */
+function bare(text) {
+    let end = text.length;
+    while (end > 0 && BEHIND.includes(text[end - 1])) end -= 1;
+    return text.slice(0, end).replace(BEFORE, '');
+}
+
 /** One line of a text: the player that it says it is of, whether a key begins with it, its hexadecimal digits, and a sign that is none. */
 function readLine(text) {
-    let rest = text.replace(BEFORE, '').replace(BEHIND, '');
+    let rest = bare(text);
     const label = LABEL.exec(rest);
     const numbered = label ?? NUMBERED.exec(rest);
     if (numbered !== null) rest = rest.slice(numbered[0].length).replace(BEFORE, '');
@@ -163,7 +172,10 @@ export function keysOfText(library, text, name = '') {
         }
         found.forEach(({ line, bytes }) => keys.push({ bytes, from: whereOf(name, [line]), label: line === lines[0] ? label : null }));
     }
-    if (keys.length === 0 && problems.length === 0) problems.push(sentence('empty', { where: name === '' ? 'the text' : name }));
+    const where = name === '' ? 'the text' : name;
+    if (keys.length === 0 && problems.length === 0) problems.push(sentence('empty', { where }));
+    const more = problems.splice(MOST_WRONG).length;
+    if (more > 0) problems.push(sentence('more wrong', { where, count: more }));
     return { keys, problems };
 }
 

@@ -11,6 +11,7 @@ export const WORDS = {
 
     "no digit": "{where}: “{sign}” is no hexadecimal digit",
     "odd digits": "{where}: {count} hexadecimal digits, and a byte has two",
+    "more wrong": "{where}: {count} more places cannot be read",
     "empty": "{where} is empty",
     "too long": "{where} is too long: no board has so many bytes of keys",
 
