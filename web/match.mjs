@@ -7,7 +7,7 @@ import { WORDS } from './words.mjs';
 
 const MOST_KEYS = 6;
 const MOST_SHARE_BYTES = 16;
-const SQUARES_IN_A_LINE = 8;
+export const SQUARES_IN_A_LINE = 8;
 // Of a text that has nothing to do with keys not every line is named.
 const MOST_WRONG = 5;
 // All keys of the largest board have 1,579,056 bytes; written as text, they are some times longer.
@@ -299,10 +299,15 @@ export function examine(library, keys) {
 
 // ---- what they join to ----
 
+/** What a table has for a position. */
+export function entry(table, { valueBytes }, position) {
+    return table.subarray(position * valueBytes, (position + 1) * valueBytes);
+}
+
 /** The positions whose entry is not zero. */
-export function marked(table, { positions, valueBytes }) {
-    return Array.from({ length: positions }, (_, position) => position)
-        .filter((position) => table.subarray(position * valueBytes, (position + 1) * valueBytes).some((byte) => byte !== 0));
+export function marked(table, board) {
+    return Array.from({ length: board.positions }, (_, position) => position)
+        .filter((position) => entry(table, board, position).some((byte) => byte !== 0));
 }
 
 /** A square in words; `sensor` is undefined where the board is not the spring board. */
@@ -317,8 +322,7 @@ export function joinedWords(table, board, sensorOf) {
     if (found.length === 0) return sentence('zero');
     if (found.length > 1) return sentence('several', { count: found.length });
     const [position] = found;
-    const value = hexadecimal(table.subarray(position * board.valueBytes, (position + 1) * board.valueBytes));
-    return sentence('piece', { place: squareWords(position, sensorOf(position)), value });
+    return sentence('piece', { place: squareWords(position, sensorOf(position)), value: hexadecimal(entry(table, board, position)) });
 }
 
 /** The XOR of some players' tables, by Join shares, sixteen bytes at a time. */

@@ -4,12 +4,11 @@ import { randomDealing } from './draw.mjs';
 import { fingerprint } from './fingerprint.mjs';
 import { answerOf, examine, hexadecimal, joinedWords, joinTables, keysApart, keysOfFile, keysOfText, listed, marked, matchText, MOST_FILE_BYTES,
     printedDeal, sentence, squareWords, together } from './match.mjs';
+import { boardGrid, isShownWhole, partOf, shownAtOnce, squareAfter, squareIn } from './board.mjs';
+import { capital, element, make, say, shape } from './elements.mjs';
 import { WORDS } from './words.mjs';
 
-const SQUARES_IN_A_LINE = 8;
-const SQUARES_SHOWN = 256;
 const SENSORS = 72;
-const SMALL_BYTES = 2;
 const DEALT_HERE = 'An example: your browser hid this piece and dealt these keys just now.';
 const ALWAYS_THE_SAME = 'An example: a board of six squares for two players, always the same.';
 
@@ -20,26 +19,6 @@ const library = await loadBase64(element('module').textContent).catch((error) =>
 
 // What is here: the keys as they were given, those set aside while an example is shown, what the library says of them, and what is looked at.
 const state = { keys: [], aside: null, found: null, pieces: [], chosen: null, first: 0, members: new Set(), sensors: false, together: null, named: 0 };
-
-function element(id) {
-    return document.getElementById(id);
-}
-
-/** A new element with properties, attributes (in `aria`) and children. */
-function make(tag, { aria = {}, ...properties } = {}, ...children) {
-    const made = Object.assign(document.createElement(tag), properties);
-    for (const [name, value] of Object.entries(aria)) made.setAttribute(name, value);
-    made.append(...children);
-    return made;
-}
-
-function say(id, words) {
-    if (element(id).textContent !== words) element(id).textContent = words;
-}
-
-function capital(words) {
-    return words[0].toUpperCase() + words.slice(1);
-}
 
 function counted(number, one, more = `${one}s`) {
     return `${WORDS.numbers[number] ?? number.toLocaleString('en')} ${number === 1 ? one : more}`;
@@ -71,8 +50,8 @@ function keysChanged() {
     state.pieces = joined === null ? [] : marked(joined, board);
     const here = players.flatMap((key, player) => (key === null ? [] : [player]));
     state.members = new Set(here.slice(0, Math.max(1, (board?.players ?? 1) - 1)));
-    if (state.pieces.length > 0) choose(state.pieces[0]);
-    else if (board === null || state.chosen === null || state.chosen >= board.positions) choose(board === null ? null : 0);
+    const isOnBoard = board !== null && state.chosen !== null && state.chosen < board.positions;
+    choose(board === null ? null : state.pieces[0] ?? (isOnBoard ? state.chosen : 0));
     element('intake').open = joined === null;
     for (const id of ['square-part', 'group-part']) if (board === null) element(id).open = false;
     show();
@@ -86,7 +65,7 @@ function toAnswer() {
 
 function choose(position) {
     state.chosen = position;
-    if (position !== null) state.first = Math.floor(position / SQUARES_SHOWN) * SQUARES_SHOWN;
+    state.first = position === null ? 0 : partOf(state.found.board, position);
 }
 
 function holders() {
@@ -144,10 +123,6 @@ function removeKey(id) {
 
 // ---- boards ----
 
-function entry(table, { valueBytes }, position) {
-    return table.subarray(position * valueBytes, (position + 1) * valueBytes);
-}
-
 // Position by position, the sensor of the spring board that lies there.
 const sensorAt = new Map(Array.from({ length: SENSORS }, (_, sensor) => [library.sensorPosition(sensor), sensor]));
 
@@ -159,85 +134,37 @@ function placeWords(position) {
     return squareWords(position, sensorOf(position));
 }
 
-/** The digits that a square has room for; a longer value stands whole in the square's name and in its shares. */
-function shownDigits(digits) {
-    return digits.length > 8 ? `${digits.slice(0, 4)}\n\u2026` : digits.match(/.{1,4}/g).join('\n');
-}
-
-/** One square of a table. In a joined table a zero is a dot; the piece has its look only where it is alone. */
-function squareCell(table, board, position, isJoined) {
-    const value = entry(table, board, position);
-    const isZero = value.every((byte) => byte === 0);
-    const isPiece = isJoined && state.pieces.length === 1 && !isZero;
-    const look = !isJoined ? 'noise' : isZero ? 'zero' : isPiece ? 'piece' : 'wrong';
-    const digits = hexadecimal(value);
-    const sensor = state.sensors ? sensorOf(position) : undefined;
-    const words = isZero && isJoined ? 'zero' : `value ${digits}${isPiece ? ', the piece' : ''}`;
-    const cell = make('td', {
-        tabIndex: -1, className: look,
-        aria: { role: 'gridcell', 'data-position': position, 'aria-selected': String(position === state.chosen),
-            'aria-label': `${capital(placeWords(position))}: ${words}` },
-    }, make('span', { className: 'value' }, isZero && isJoined ? '\u00B7' : shownDigits(digits)),
-    ...(sensor === undefined ? [] : [make('span', { className: 'sensor' }, String(sensor))]));
-    cell.style.setProperty('--level', String(value[0] / 255));
-    return cell;
-}
-
-function lineOf(table, board, start, last, isJoined) {
-    const line = make('tr', { aria: { role: 'row' } },
-        make('th', { scope: 'row', aria: { role: 'rowheader', 'aria-label': `Line ${start / SQUARES_IN_A_LINE}` } }, String(start / SQUARES_IN_A_LINE)));
-    for (let position = start; position < Math.min(last, start + SQUARES_IN_A_LINE); position += 1) {
-        line.append(squareCell(table, board, position, isJoined));
-    }
-    return line;
-}
-
-/** Shows a table as lines of eight squares with their headings, from the first square that is looked at. */
-function showTable(id, table, board, label, isJoined) {
+/** Shows a table in its place, from the first square that is looked at; who was on a square stays there. */
+function showTable(id, table, label, isJoined) {
     const place = element(id);
-    const focused = place.contains(document.activeElement) ? Number(document.activeElement.dataset.position) : null;
-    const last = Math.min(board.positions, state.first + SQUARES_SHOWN);
-    const columns = Array.from({ length: Math.min(SQUARES_IN_A_LINE, board.positions) }, (_, column) => column);
-    const columnHead = (name, className, ...words) => make('th', { className, scope: 'col', aria: { role: 'columnheader', 'aria-label': name } }, ...words);
-    const heading = make('tr', { aria: { role: 'row' } }, columnHead('Line', 'corner'),
-        ...columns.map((column) => columnHead(`Column ${column}`, '', String(column))));
-    const lines = [];
-    for (let start = state.first; start < last; start += SQUARES_IN_A_LINE) lines.push(lineOf(table, board, start, last, isJoined));
-    const grid = make('table', { className: board.valueBytes > SMALL_BYTES ? 'squares tall' : 'squares', onkeydown: moveInGrid, onclick: chooseInGrid,
-        aria: { role: 'grid', 'aria-label': label, 'aria-describedby': 'grid-help' } },
-    make('thead', { aria: { role: 'rowgroup' } }, heading), make('tbody', { aria: { role: 'rowgroup' } }, ...lines));
-    grid.classList.toggle('with-sensors', state.sensors && board.positions === SENSORS);
-    const entered = grid.querySelector(`[data-position="${focused ?? state.chosen}"]`) ?? grid.querySelector('td[data-position]');
-    entered.tabIndex = 0;
+    const entered = place.contains(document.activeElement) ? Number(document.activeElement.dataset.position) : null;
+    const { board } = state.found;
+    const { first, chosen, pieces } = state;
+    const withSensors = state.sensors && board.positions === SENSORS;
+    const grid = boardGrid({ table, board, first, chosen, entered, pieces, isJoined, sensorOf, withSensors, label });
+    grid.addEventListener('keydown', moveInGrid);
+    grid.addEventListener('click', chooseInGrid);
     place.replaceChildren(grid);
-    if (focused !== null) entered.focus();
+    if (entered !== null) grid.querySelector('td[tabindex="0"]').focus();
 }
 
 function moveInGrid(event) {
     const cell = event.target.closest('td[data-position]');
-    if (cell === null) return;
+    if (cell === null || event.altKey) return;
     const position = Number(cell.dataset.position);
-    const last = state.found.board.positions - 1;
-    const lineStart = position - position % SQUARES_IN_A_LINE;
-    const to = {
-        ArrowLeft: position - 1, ArrowRight: position + 1, ArrowUp: position - SQUARES_IN_A_LINE, ArrowDown: position + SQUARES_IN_A_LINE,
-        Home: event.ctrlKey ? 0 : lineStart, End: event.ctrlKey ? last : Math.min(last, lineStart + SQUARES_IN_A_LINE - 1),
-        PageUp: Math.max(0, position - SQUARES_SHOWN), PageDown: Math.min(last, position + SQUARES_SHOWN),
-    }[event.key];
-    if (event.key === 'Enter' || event.key === ' ') {
-        event.preventDefault();
-        chooseSquare(position);
-    } else if (to !== undefined && event.altKey === false) {
-        event.preventDefault();
-        if (to >= 0 && to <= last) focusSquare(cell.closest('.table'), to);
-    }
+    const to = squareAfter(event, state.found.board, position);
+    const isChosen = event.key === 'Enter' || event.key === ' ';
+    if (to === undefined && !isChosen) return;
+    event.preventDefault();
+    if (isChosen) chooseSquare(position);
+    else focusSquare(cell.closest('.table'), to);
 }
 
 function focusSquare(place, position) {
-    const first = Math.floor(position / SQUARES_SHOWN) * SQUARES_SHOWN;
+    const first = partOf(state.found.board, position);
     if (first !== state.first) turnTo(first);
-    const next = place.querySelector(`[data-position="${position}"]`);
     for (const other of place.querySelectorAll('td[tabindex="0"]')) other.tabIndex = -1;
+    const next = squareIn(place, position);
     next.tabIndex = 0;
     next.focus();
 }
@@ -316,14 +243,14 @@ function showBoards() {
     element('print').hidden = joined === null;
     if (board === null) return;
     element('sensors-switch').hidden = board.positions !== SENSORS;
-    element('pages').hidden = board.positions <= SQUARES_SHOWN;
-    const last = Math.min(board.positions, state.first + SQUARES_SHOWN) - 1;
+    element('pages').hidden = isShownWhole(board);
+    const last = Math.min(board.positions, state.first + shownAtOnce(board)) - 1;
     const [from, to, all] = [state.first, last, board.positions].map((number) => number.toLocaleString('en'));
     say('range', `Squares ${from} to ${to} of ${all}`);
     element('earlier').disabled = state.first === 0;
     element('later').disabled = last + 1 === board.positions;
     element('to-piece').hidden = state.pieces.length !== 1;
-    if (joined !== null) showTable('joined', joined, board, 'The board, all keys together', true);
+    if (joined !== null) showTable('joined', joined, 'The board, all keys together', true);
     showGroup(board);
 }
 
@@ -342,7 +269,7 @@ function showGroup(board) {
         : `${capital(WORDS.numbers[members.length])} of ${WORDS.numbers[board.players]} players: ${names}. ${left === 0
             ? 'With everybody it is the board above.' : `${capital(WORDS.numbers[left])} ${left === 1 ? 'is' : 'are'} left out, and it looks like noise.`}`);
     element('group').classList.toggle('piece', left === 0 && state.pieces.length === 1);
-    if (members.length > 0) showTable('group', tableOfMembers(members), board, `What players ${names} see together`, left === 0 && state.found.joined !== null);
+    if (members.length > 0) showTable('group', tableOfMembers(members), `What players ${names} see together`, left === 0 && state.found.joined !== null);
 }
 
 /** The members' tables joined, worked out once for these keys. */
@@ -449,12 +376,6 @@ function turnTo(first) {
     showBoards();
 }
 
-function shape(tag, attributes) {
-    const made = document.createElementNS('http://www.w3.org/2000/svg', tag);
-    for (const [name, value] of Object.entries(attributes)) made.setAttribute(name, value);
-    return made;
-}
-
 /** The picture on the empty page: three players' noise above, and below what they are together; a drawn board of 24 squares. */
 function drawPicture() {
     const [lines, along, side] = [4, 6, 12];
@@ -527,8 +448,8 @@ element('sensors').addEventListener('change', (event) => {
     state.sensors = event.target.checked;
     showBoards();
 });
-element('earlier').addEventListener('click', () => turnTo(state.first - SQUARES_SHOWN));
-element('later').addEventListener('click', () => turnTo(state.first + SQUARES_SHOWN));
+element('earlier').addEventListener('click', () => turnTo(state.first - shownAtOnce(state.found.board)));
+element('later').addEventListener('click', () => turnTo(state.first + shownAtOnce(state.found.board)));
 element('to-piece').addEventListener('click', () => chooseSquare(state.pieces[0]));
 element('square').addEventListener('change', (event) => {
     const position = event.target.value.trim() === '' ? NaN : Number(event.target.value);

@@ -7,7 +7,7 @@ const KEYWORD = 'Page';
 
 /** What the picture shows depends on these; the library's own bytes are not among them. */
 export function pageDigest() {
-    const sources = ['page.html', 'page.css', 'page.mjs', 'words.mjs'].map((name) => readFileSync(new URL(name, import.meta.url)));
+    const sources = ['page.html', 'page.css', 'page.mjs', 'board.mjs', 'words.mjs'].map((name) => readFileSync(new URL(name, import.meta.url)));
     return createHash('sha256').update(Buffer.concat(sources)).digest('hex');
 }
 

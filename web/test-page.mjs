@@ -464,21 +464,21 @@ onPage('the largest board is shown in parts', async (page) => {
     const keys = library.deal(dealing);
     await give(page, [stored('large.keys', keys)], 2);
     assert.equal(await answer(page), pieceWords(dealing));
-    const first = dealing.point - dealing.point % 256;
-    assert.equal(await page.text('#range'), `Squares ${first.toLocaleString('en')} to ${(first + 255).toLocaleString('en')} of 65,536`);
+    const first = dealing.point - dealing.point % 72;
+    assert.equal(await page.text('#range'), `Squares ${first.toLocaleString('en')} to ${(first + 71).toLocaleString('en')} of 65,536`);
     assert.deepEqual(await looking(page, 'joined', 'piece'), [dealing.point]);
     const table = library.openAll(keysApart(library, keys)[0]);
     await open(page, 'group-part');
-    assert.deepEqual(await labels(page, 'group'), squareLabels(table, board, false, null, [first, first + 256]));
+    assert.deepEqual(await labels(page, 'group'), squareLabels(table, board, false, null, [first, first + 72]));
     await page.screenshot(`${pictures}largest-board.png`, '#result');
     await page.click(first === 0 ? '#later' : '#earlier');
-    const other = first === 0 ? 256 : first - 256;
-    assert.deepEqual(await labels(page, 'group'), squareLabels(table, board, false, null, [other, other + 256]));
+    const other = first === 0 ? 72 : first - 72;
+    assert.deepEqual(await labels(page, 'group'), squareLabels(table, board, false, null, [other, other + 72]));
     await page.click('#to-piece');
     assert.equal(await page.text('#shares caption'), capital(inWords(dealing.point, dealing)));
     await page.run(() => document.querySelector('#joined td[tabindex="0"]').focus());
     await page.press('PageDown');
-    assert.equal(await page.run(() => Number(document.activeElement.dataset.position)), Math.min(65535, dealing.point + 256));
+    assert.equal(await page.run(() => Number(document.activeElement.dataset.position)), Math.min(65535, dealing.point + 72));
 });
 
 onPage('values of two to five bytes', async (page) => {
