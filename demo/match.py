@@ -81,11 +81,17 @@ LABEL = re.compile("^player *#?([0-9]{1,2})[\"'\u201D\u2019]*(?:s? key)? *[:=.)-
 NUMBERED = re.compile("^(?:[0-9]{1,3}(?:[.)\\]]+:? *|: +)|#[0-9]{1,3}[.:)\\]]* +)")
 COMMENT = re.compile("^(?:#|//)")
 NO_DIGIT = re.compile("[^0-9A-Fa-f]")
+# The shortest key there is has 40 bytes; a fingerprint has 32.
+LONG_ROW = re.compile("(?<![0-9A-Za-z])(?:0[xX])?([0-9A-Fa-f]{80,})(?![0-9A-Za-z])")
+PRINT = re.compile("(?:^|[^0-9A-Fa-f])[0-9A-Fa-f]{64}(?:[^0-9A-Fa-f]|$)")
+PRINT_DIGITS = 64
+# A row of fewer signs, some of which are no digits, is a word rather than a damaged key.
+LEAST_DAMAGED = 16
 CONTROL = re.compile("[\u0000-\u0008\u000E-\u001F\u007F]")
 
 # One line of a text: its number, the player that it says it is of, whether a key begins with it, its hexadecimal digits, and a sign that is
 # none.
-Line = collections.namedtuple("Line", "number label begins digits other")
+Line = collections.namedtuple("Line", "number text label begins digits other")
 # A key that was found: its bytes, where, and the player that the line says it is of.
 Found = collections.namedtuple("Found", "bytes origin label")
 
@@ -100,17 +106,35 @@ def read_line(number, text):
         rest = ""
     digits = re.sub("[ ,;:_-]", "", re.sub(r"\b0x", "", rest, flags=re.IGNORECASE | re.ASCII))
     other = NO_DIGIT.search(digits)
-    return Line(number, int(label.group(1)) if label else None, bool(numbered), digits, other and other.group())
+    return Line(number, text, int(label.group(1)) if label else None, bool(numbered), digits, other and other.group())
+
+
+def is_words(line):
+    """Whether a line with a sign that is no digit is words, or a fingerprint among words, and not a key in which something was changed."""
+    signs, digits = len(line.digits), len(line.digits) - len(NO_DIGIT.findall(line.digits))
+    return signs < LEAST_DAMAGED or 5 * digits < 4 * signs or bool(PRINT.search(line.text))
+
+
+def keys_amidst(library, lines):
+    """The keys that stand whole in these lines, whatever stands around them: rows of digits that are accepted."""
+    found = []
+    for line in lines:
+        for row in LONG_ROW.findall(line.text):
+            keys = keys_apart(library, bytes.fromhex(row)) if len(row) % 2 == 0 else []
+            if all(is_accepted(library, key) for key in keys):
+                found += [(line, key) for key in keys]
+    return found
 
 
 def blocks_of(text):
-    """The lines that belong together, and whose they say they are: a labelled or numbered line begins a block, an empty one ends it."""
+    """The lines that belong together, and whose they say they are: a labelled or numbered line begins a block; an empty one and words end it."""
     blocks, is_open = [], False
     for index, text_line in enumerate(SPACES.sub(" ", UNSEEN.sub("", BREAKS.sub("\n", text))).split("\n")):
         line = read_line(index + 1, text_line)
-        if line.begins or (line.digits and not is_open):
+        apart = line.other is not None and is_words(line)
+        if line.begins or apart or (line.digits and not is_open):
             blocks.append((line.label, []))
-        is_open = line.begins or line.digits != ""
+        is_open = not apart and (line.begins or line.digits != "")
         if line.digits:
             blocks[-1][1].append(line)
     return [(label, lines) for label, lines in blocks if lines]
@@ -153,24 +177,74 @@ def where_of(name, lines):
     return "%s%s" % (name and name + ", ", "line %d" % first if first == last else "lines %d to %d" % (first, last))
 
 
+def wrong_words(wrong, name):
+    """What is said of these lines: of what may be a damaged key, and of words."""
+    def said(line):
+        if PRINT.search(line.text):
+            return sentence("fingerprint", where=where_of(name, [line]))
+        return sentence("no digit", where=where_of(name, [line]), sign=line.other)
+    return [said(line) for line in wrong if not is_words(line)], [said(line) for line in wrong if is_words(line)]
+
+
+def odd_words(lines, name):
+    return sentence("odd digits", where=where_of(name, lines), count=sum(len(line.digits) for line in lines))
+
+
+def beside_them(keys, lines, name):
+    """These keys, and beside them a key to each of these lines; a line that has half a byte is named."""
+    whole = [line for line in lines if len(line.digits) % 2 == 0]
+    found = sorted(keys + by_line(whole), key=lambda key: key[0].number)
+    return found, [odd_words([line], name) for line in lines if len(line.digits) % 2]
+
+
+def lines_without(keys, lines):
+    having = [line for line, _ in keys]
+    return [line for line in lines if line not in having]
+
+
+def read_digits(library, lines, name):
+    """The keys of a block of digits alone, and what is wrong with it."""
+    read = keys_of_block(library, lines)
+    if any(is_accepted(library, key) for _, key in read):
+        return read, [], []
+    amidst = keys_amidst(library, lines)
+    if amidst:
+        return (*beside_them(amidst, lines_without(amidst, lines), name), [])
+    if not read:
+        return [], [odd_words(lines, name)], []
+    if len(lines) > 1 or len(lines[0].digits) != PRINT_DIGITS:
+        return read, [], []
+    return [], [], [sentence("fingerprint", where=where_of(name, lines))]
+
+
+def read_block(library, lines, name):
+    """The keys of one block, and what is wrong with it: sentences of what may be a damaged key, and of words."""
+    odd = [line for line in lines if line.other is not None]
+    if not odd:
+        return read_digits(library, lines, name)
+    amidst = keys_amidst(library, odd)
+    damage, words = wrong_words(lines_without(amidst, odd), name)
+    found, halves = beside_them(amidst, [line for line in lines if line.other is None], name)
+    # Where no line is a key by itself, these are parts of one in which something was changed, and that is named.
+    if not any(is_accepted(library, key) for _, key in found):
+        return [], damage, words
+    return found, damage + halves, words
+
+
 def keys_of_text(library, text, name=""):
-    """The keys in a text, and what could not be read. A line that is no hexadecimal takes none of the others with it."""
-    keys, problems = [], []
+    """The keys in a text, and what could not be read. A line that is no hexadecimal takes none of the others with it; what may be a damaged
+    key is named before words are."""
+    keys, damage, words = [], [], []
     for label, lines in blocks_of(text):
-        wrong = [line for line in lines if line.other is not None]
-        problems += [sentence("no digit", where=where_of(name, [line]), sign=line.other) for line in wrong]
-        if wrong:
-            whole = [line for line in lines if line.other is None and len(line.digits) % 2 == 0]
-            found = [(line, key) for line, key in by_line(whole) if is_accepted(library, key)]
-        else:
-            found = keys_of_block(library, lines)
-            if not found:
-                problems.append(sentence("odd digits", where=where_of(name, lines), count=sum(len(line.digits) for line in lines)))
+        found, damaged, said = read_block(library, lines, name)
         keys += [Found(key, where_of(name, [line]), label if line is lines[0] else None) for line, key in found]
+        damage += damaged
+        words += said
+    problems, where = damage + words, name or "the text"
     if not keys and not problems:
-        problems.append(sentence("empty", where=name or "the text"))
-    if len(problems) > MOST_WRONG:
-        problems[MOST_WRONG:] = [sentence("more wrong", where=name or "the text", count=len(problems) - MOST_WRONG)]
+        problems.append(sentence("empty", where=where))
+    if len(problems) > MOST_WRONG + 1:
+        problems[MOST_WRONG:] = [sentence("more wrong", where=where, count=len(problems) - MOST_WRONG)]
     return keys, problems
 
 

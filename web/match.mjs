@@ -91,6 +91,12 @@ const BEHIND = ' "\'\u201C\u201D\u2018\u2019\u00AB\u00BB`[](){},;.';
 const LABEL = /^player *#?([0-9]{1,2})["'\u201D\u2019]*(?:s? key)? *[:=.)-]* */i;
 const NUMBERED = /^(?:[0-9]{1,3}(?:[.)\]]+:? *|: +)|#[0-9]{1,3}[.:)\]]* +)/;
 const COMMENT = /^(?:#|\/\/)/;
+// The shortest key there is has 40 bytes; a fingerprint has 32.
+const LONG_ROW = /(?<![0-9a-z])(?:0x)?([0-9a-f]{80,})(?![0-9a-z])/gi;
+const PRINT = /(?:^|[^0-9a-f])[0-9a-f]{64}(?:[^0-9a-f]|$)/i;
+const PRINT_DIGITS = 64;
+// A row of fewer signs, some of which are no digits, is a word rather than a damaged key.
+const LEAST_DAMAGED = 16;
 
 /** A line without what people put around it. (A pattern for its end would look at a long row of spaces from each of them.) */
 function bare(text) {
@@ -100,7 +106,7 @@ function bare(text) {
 }
 
 /** One line of a text: the player that it says it is of, whether a key begins with it, its hexadecimal digits, and a sign that is none. */
-function readLine(text) {
+function readLine(text, number) {
     let rest = bare(text);
     const label = LABEL.exec(rest);
     const numbered = label ?? NUMBERED.exec(rest);
@@ -108,18 +114,32 @@ function readLine(text) {
     else if (COMMENT.test(rest)) rest = '';
     const digits = rest.replace(/\b0x/gi, '').replace(/[ ,;:_-]/g, '');
     const [other] = [...digits].filter((sign) => !/^[0-9a-f]$/i.test(sign));
-    return { label: label === null ? null : Number(label[1]), begins: numbered !== null, digits, other };
+    return { number, text, label: label === null ? null : Number(label[1]), begins: numbered !== null, digits, other };
 }
 
-/** The lines that belong together, and whose they say they are: a labelled or numbered line begins a block, an empty one ends it. */
+/** Whether a line with a sign that is no digit is words, or a fingerprint among words, and not a key in which something was changed. */
+function isWords({ digits, text }) {
+    const signs = [...digits];
+    return signs.length < LEAST_DAMAGED || 5 * signs.filter((sign) => /^[0-9a-f]$/i.test(sign)).length < 4 * signs.length || PRINT.test(text);
+}
+
+/** The keys that stand whole in these lines, whatever stands around them: rows of digits that are accepted. */
+function keysAmidst(library, lines) {
+    return lines.flatMap((line) => [...line.text.matchAll(LONG_ROW)].filter(([, row]) => row.length % 2 === 0)
+        .map(([, row]) => keysApart(library, bytesOf(row))).filter((keys) => keys.every((bytes) => isAccepted(library, bytes)))
+        .flat().map((bytes) => ({ line, bytes })));
+}
+
+/** The lines that belong together, and whose they say they are: a labelled or numbered line begins a block; an empty one and words end it. */
 function blocksOf(text) {
     const blocks = [];
     let open = false;
-    text.replace(BREAKS, '\n').replace(UNSEEN, '').replace(SPACES, ' ').split('\n').forEach((line, index) => {
-        const read = { ...readLine(line), number: index + 1 };
-        if (read.begins || (read.digits !== '' && !open)) blocks.push({ label: read.label, lines: [] });
-        open = read.begins || read.digits !== '';
-        if (read.digits !== '') blocks.at(-1).lines.push(read);
+    text.replace(BREAKS, '\n').replace(UNSEEN, '').replace(SPACES, ' ').split('\n').forEach((each, index) => {
+        const line = readLine(each, index + 1);
+        const apart = line.other !== undefined && isWords(line);
+        if (line.begins || apart || (line.digits !== '' && !open)) blocks.push({ label: line.label, lines: [] });
+        open = !apart && (line.begins || line.digits !== '');
+        if (line.digits !== '') blocks.at(-1).lines.push(line);
     });
     return blocks.filter(({ lines }) => lines.length > 0);
 }
@@ -154,28 +174,72 @@ function whereOf(name, lines) {
     return `${name === '' ? '' : `${name}, `}${first === last ? `line ${first}` : `lines ${first} to ${last}`}`;
 }
 
+/** These keys, and beside them a key to each of these lines; a line that has half a byte is named. */
+function besideThem(keys, lines, name) {
+    const isWhole = ({ digits }) => digits.length % 2 === 0;
+    const found = [...keys, ...byLine(lines.filter(isWhole))].sort((one, other) => one.line.number - other.line.number);
+    return { found, damage: lines.filter((line) => !isWhole(line)).map((line) => oddWords([line], name)) };
+}
+
+function oddWords(lines, name) {
+    return sentence('odd digits', { where: whereOf(name, lines), count: lines.reduce((sum, { digits }) => sum + digits.length, 0) });
+}
+
+/** The keys of a block of digits alone, and what is wrong with it. */
+function readDigits(library, lines, name) {
+    const read = keysOfBlock(library, lines);
+    if (read.some(({ bytes }) => isAccepted(library, bytes))) return { found: read, damage: [], words: [] };
+    const amidst = keysAmidst(library, lines);
+    if (amidst.length > 0) return { ...besideThem(amidst, linesWithout(amidst, lines), name), words: [] };
+    if (read.length === 0) return { found: [], damage: [oddWords(lines, name)], words: [] };
+    if (lines.length > 1 || lines[0].digits.length !== PRINT_DIGITS) return { found: read, damage: [], words: [] };
+    return { found: [], damage: [], words: [sentence('fingerprint', { where: whereOf(name, lines) })] };
+}
+
+function linesWithout(keys, lines) {
+    return lines.filter((line) => !keys.some((key) => key.line === line));
+}
+
+/** The keys of one block, and what is wrong with it: sentences of what may be a damaged key, and of words. */
+function readBlock(library, lines, name) {
+    const odd = lines.filter(({ other }) => other !== undefined);
+    if (odd.length === 0) return readDigits(library, lines, name);
+    const amidst = keysAmidst(library, odd);
+    const { damage, words } = wrongWords(linesWithout(amidst, odd), name);
+    const right = lines.filter(({ other }) => other === undefined);
+    const beside = besideThem(amidst, right, name);
+    // Where no line is a key by itself, these are parts of one in which something was changed, and that is named.
+    if (!beside.found.some(({ bytes }) => isAccepted(library, bytes))) return { found: [], damage, words };
+    return { found: beside.found, damage: [...damage, ...beside.damage], words };
+}
+
+function wrongWords(wrong, name) {
+    const said = (line) => (PRINT.test(line.text) ? sentence('fingerprint', { where: whereOf(name, [line]) })
+        : sentence('no digit', { where: whereOf(name, [line]), sign: line.other }));
+    return { damage: wrong.filter((line) => !isWords(line)).map(said), words: wrong.filter(isWords).map(said) };
+}
+
 /**
- * The keys in a text, and what could not be read. A line that is no hexadecimal takes none of the others with it.
+ * The keys in a text, and what could not be read. A line that is no hexadecimal takes none of the others with it; what may be a damaged key is
+ * named before words are.
  * @param {string} name of the file that the text is from, or ''
  * @returns {{ keys: { bytes: Uint8Array, from: string, label: ?number }[], problems: string[] }}
  */
 export function keysOfText(library, text, name = '') {
-    const [keys, problems] = [[], []];
+    const [keys, damage, words] = [[], [], []];
     for (const { label, lines } of blocksOf(text)) {
-        const wrong = lines.filter(({ other }) => other !== undefined);
-        for (const line of wrong) problems.push(sentence('no digit', { where: whereOf(name, [line]), sign: line.other }));
-        const found = wrong.length === 0 ? keysOfBlock(library, lines)
-            : byLine(lines.filter((line) => !wrong.includes(line) && line.digits.length % 2 === 0)).filter(({ bytes }) => isAccepted(library, bytes));
-        if (wrong.length === 0 && found.length === 0) {
-            const count = lines.reduce((sum, { digits }) => sum + digits.length, 0);
-            problems.push(sentence('odd digits', { where: whereOf(name, lines), count }));
-        }
-        found.forEach(({ line, bytes }) => keys.push({ bytes, from: whereOf(name, [line]), label: line === lines[0] ? label : null }));
+        const read = readBlock(library, lines, name);
+        read.found.forEach(({ line, bytes }) => keys.push({ bytes, from: whereOf(name, [line]), label: line === lines[0] ? label : null }));
+        for (const said of read.damage) damage.push(said);
+        for (const said of read.words) words.push(said);
     }
+    const problems = [...damage, ...words];
     const where = name === '' ? 'the text' : name;
     if (keys.length === 0 && problems.length === 0) problems.push(sentence('empty', { where }));
-    const more = problems.splice(MOST_WRONG).length;
-    if (more > 0) problems.push(sentence('more wrong', { where, count: more }));
+    if (problems.length > MOST_WRONG + 1) {
+        const count = problems.splice(MOST_WRONG).length;
+        problems.push(sentence('more wrong', { where, count }));
+    }
     return { keys, problems };
 }
 

@@ -18,7 +18,7 @@ const library = await loadBase64(element('module').textContent).catch((error) =>
 });
 
 // What is here: the keys as they were given, those set aside while an example is shown, what the library says of them, and what is looked at.
-const state = { keys: [], aside: null, found: null, pieces: [], chosen: null, first: 0, members: new Set(), sensors: false, together: null, named: 0 };
+const state = { keys: [], aside: null, problems: [], note: '', found: null, rivals: new Set(), pieces: [], chosen: null, first: 0, members: new Set(), sensors: false, together: null, named: 0 };
 
 function counted(number, one, more = `${one}s`) {
     return `${WORDS.numbers[number] ?? number.toLocaleString('en')} ${number === 1 ? one : more}`;
@@ -31,11 +31,13 @@ function refusalWords({ number, name, words }) {
 
 // ---- keys ----
 
-/** Takes keys in beside those that are here. Keys that a reader gives end an example. */
+/** Takes keys in beside those that are here, or in their place where they are a whole match by themselves. Keys that a reader gives end an example. */
 function addKeys(keys) {
-    if (state.aside !== null) leaveExample();
-    state.keys = [...state.keys, ...keys.map(named)];
-    keysChanged();
+    if (keys.length > 0 && state.aside !== null) leaveExample();
+    const isWhole = examine(library, keys).joined !== null;
+    const note = isWhole && state.keys.length > 0 ? 'They took the place of those that were here.' : '';
+    state.keys = [...(isWhole ? [] : state.keys), ...keys.map(named)];
+    keysChanged(note);
     if (keys.length > 0) toAnswer();
 }
 
@@ -44,14 +46,15 @@ function named(key) {
     return { ...key, bytes: key.bytes.slice(), id: state.named, fingerprint: fingerprint(key.bytes) };
 }
 
-function keysChanged() {
+function keysChanged(note = '') {
+    state.note = note;
     state.found = examine(library, state.keys);
-    const { board, joined, players } = state.found;
+    const { keys, board, joined } = state.found;
+    state.rivals = new Set(keys.filter((key) => key.state === 'conflict').map(({ header }) => header.player));
     state.pieces = joined === null ? [] : marked(joined, board);
-    const here = players.flatMap((key, player) => (key === null ? [] : [player]));
-    state.members = new Set(here.slice(0, Math.max(1, (board?.players ?? 1) - 1)));
-    const isOnBoard = board !== null && state.chosen !== null && state.chosen < board.positions;
-    choose(board === null ? null : state.pieces[0] ?? (isOnBoard ? state.chosen : 0));
+    state.members = new Set(holders().map(({ player }) => player).slice(0, Math.max(1, (board?.players ?? 1) - 1)));
+    const isKept = joined === null && board !== null && state.chosen < board.positions;
+    choose(state.pieces.length === 1 ? state.pieces[0] : isKept ? state.chosen : null);
     element('intake').open = joined === null;
     for (const id of ['square-part', 'group-part']) if (board === null) element(id).open = false;
     show();
@@ -68,32 +71,39 @@ function choose(position) {
     state.first = position === null ? 0 : partOf(state.found.board, position);
 }
 
+/** The keys that can be opened, by player. Of two that speak against each other nobody knows which one counts. */
 function holders() {
-    return state.found.players.flatMap((key, player) => (key === null ? [] : [{ player, key }]));
+    return state.found.players.flatMap((key, player) => (key === null || state.rivals.has(player) ? [] : [{ player, key }]));
 }
 
-/** What a key's line says: whose it is, whether it fits, where it is from, and its fingerprint or what is wrong. */
-function keyLine({ state: standing, words, header, from, fingerprint: print }) {
-    const fits = standing === 'used' || standing === 'copy';
+function isRival({ state: standing, header }) {
+    return standing === 'used' && state.rivals.has(header.player);
+}
+
+/** What a key's line says: whose it is, where it is from, its fingerprint, and what is to be said of it. A tick means that it can be opened on the
+    match's board, and stands only where nothing warns. */
+function keyLine(key) {
+    const { state: standing, header, from, fingerprint: print } = key;
+    const fits = (standing === 'used' && !isRival(key)) || standing === 'copy';
+    const words = isRival(key) ? sentence('conflict', header) : key.words;
     const whose = header === null || standing === 'other' ? [] : [make('strong', {}, `Player ${header.player}`), ' '];
-    const [look, sign, heard] = fits ? ['fits', '\u2713', ' fits'] : ['fails', '\u2717', ' does not fit'];
-    const rest = standing === 'used' ? make('span', { className: 'print' }, `${print.slice(0, 4)}\u2026`)
-        : make('span', { className: 'wrong' }, capital(words));
-    return [...whose, make('span', { className: look }, sign, make('span', { className: 'unseen' }, heard)), ' ',
-        make('span', { className: 'from' }, from), ' ', rest];
+    const isWarned = document.body.dataset.looks === 'warning';
+    const [look, sign, heard] = !fits ? ['fails', '\u2717', ' does not fit'] : isWarned ? ['from', '\u2022', ''] : ['fits', '\u2713', ' can be read'];
+    return [...whose, make('span', { className: look }, sign, make('span', { className: 'unseen' }, heard)), ' ', make('span', { className: 'from' }, from),
+        ...(standing === 'used' ? [' ', make('span', { className: 'print' }, `${print.slice(0, 4)}\u2026`)] : []),
+        ...(words === null ? [] : [' ', make('span', { className: 'wrong' }, capital(words))])];
 }
 
 function keyItem(key) {
-    const { id, state: standing, words, header, refusal, bytes, from, fingerprint: print } = key;
+    const { id, header, refusal, bytes, from, fingerprint: print } = key;
     const numbers = [['Fingerprint (SHA-256)', print], ['Length', counted(bytes.length, 'byte')]];
     if (header !== null) {
         const [players, squares, bytesOfValue] = [WORDS.numbers[header.players], counted(header.positions, 'square'), counted(header.valueBytes, 'byte')];
         numbers.push(['Board', `${players} players, ${squares}, values of ${bytesOfValue}`], ['Grid', `${header.width} wide`]);
     }
-    const notes = [standing === 'used' && words !== null ? `${capital(words)}.` : null, refusal === null ? null : refusalWords(refusal)];
-    return make('li', { className: standing }, make('details', { aria: { 'data-key': id } },
+    return make('li', { className: isRival(key) ? 'conflict' : key.state }, make('details', { aria: { 'data-key': id } },
         make('summary', {}, ...keyLine(key)),
-        ...notes.filter((note) => note !== null).map((note) => make('p', { className: 'note-line' }, note)),
+        ...(refusal === null ? [] : [make('p', { className: 'note-line' }, refusalWords(refusal))]),
         make('dl', { className: 'numbers' }, ...numbers.map(([name, value]) => make('div', {}, make('dt', {}, name), make('dd', {}, value)))),
         make('button', { type: 'button', onclick: () => removeKey(id), aria: { 'aria-label': `Remove the key ${from}` } }, 'Remove this key')));
 }
@@ -191,6 +201,7 @@ function show() {
     element('example-note').hidden = state.aside === null;
     say('leave-example', state.aside?.length > 0 ? 'Back to your keys' : 'Close the example');
     say('intake-title', joined === null ? 'Give the keys' : 'Give other keys');
+    showProblems();
     showVerdict();
     showKeys();
     showBoards();
@@ -205,16 +216,17 @@ function verdict() {
         const looks = ['zero', 'piece'][state.pieces.length] ?? 'warning';
         return { looks, words: joinedWords(joined, board, sensorOf), beside: sentence('caution') };
     }
-    const wrong = keys.filter((key) => ['refused', 'conflict'].includes(key.state));
-    const [first] = wrong.filter((key) => key.state === 'conflict').concat(wrong);
-    if (first?.state === 'conflict') {
-        return { looks: 'warning', words: `${capital(first.words)}.`, beside: 'Remove the one that does not belong to the match.', refusal };
+    const rival = keys.find((key) => key.state === 'conflict');
+    if (rival !== undefined) {
+        return { looks: 'warning', words: `${capital(rival.words)}.`, beside: 'Remove the one that does not belong to the match.', refusal };
     }
+    const unfit = keys.find((key) => ['refused', 'other'].includes(key.state));
+    const wrong = unfit === undefined ? state.problems[0] : `${unfit.from}: ${unfit.words}`;
     if (missingWords !== null) {
-        const beside = first === undefined ? 'The board appears when the keys of all players are here.' : `${first.from}: ${first.words}.`;
-        return { looks: first === undefined ? 'waiting' : 'warning', words: `${capital(missingWords)}.`, beside, refusal };
+        const beside = wrong === undefined ? 'The board appears when the keys of all players are here.' : `${wrong}.`;
+        return { looks: wrong === undefined ? 'waiting' : 'warning', words: `${capital(missingWords)}.`, beside, refusal };
     }
-    return { looks: 'warning', words: `${capital(first.words)}.`, beside: `It was read from ${first.from}.`, refusal: first.refusal };
+    return { looks: 'warning', words: `${capital(unfit.words)}.`, beside: `It was read from ${unfit.from}.`, refusal: unfit.refusal };
 }
 
 function showVerdict() {
@@ -227,18 +239,19 @@ function showVerdict() {
     say('caution', beside);
     element('refusal').hidden = refusal === null;
     if (refusal !== null) element('refusal').querySelector('p').textContent = refusalWords(refusal);
-    const { board, players, keys } = state.found;
-    const here = players.filter((key) => key !== null).length;
-    const unfit = keys.filter((key) => ['refused', 'conflict', 'other'].includes(key.state)).length;
+    const { board, keys } = state.found;
+    const here = holders().length;
+    const unfit = keys.filter((key) => ['refused', 'conflict', 'other'].includes(key.state) || isRival(key)).length;
     const count = board === null ? '' : here === board.players ? `${here === 2 ? 'Both' : `All ${WORDS.numbers[here]}`} keys are here.`
         : `${capital(WORDS.numbers[here])} of ${WORDS.numbers[board.players]} keys ${here === 1 ? 'is' : 'are'} here.`;
-    say('standing', `${count}${unfit === 0 ? '' : ` ${capital(counted(unfit, 'key does', 'keys do'))} not fit.`}`.trim());
+    const rest = unfit === 0 ? '' : `${capital(counted(unfit, 'key does', 'keys do'))} not fit.`;
+    say('standing', [count, state.note, rest].filter((words) => words !== '').join(' '));
 }
 
 function showBoards() {
     const { board, joined } = state.found;
     element('board-part').hidden = joined === null;
-    element('save-part').hidden = state.keys.length === 0;
+    element('clear').hidden = state.aside !== null;
     element('save').hidden = joined === null;
     element('print').hidden = joined === null;
     if (board === null) return;
@@ -288,11 +301,16 @@ function changeMembers(player, isMember) {
 function showShares() {
     const { board } = state.found;
     const position = state.chosen;
-    if (board === null || position === null) return;
     const field = element('square');
-    field.max = String(board.positions - 1);
-    field.value = String(position);
+    field.value = position === null ? '' : String(position);
     say('square-problem', '');
+    if (board === null || position === null) {
+        say('square-place', '');
+        say('square-words', 'Choose a square on the board, or write its number.');
+        element('shares').replaceChildren();
+        return;
+    }
+    field.max = String(board.positions - 1);
     say('square-place', placeWords(position).replace(/^square \d+ /, ''));
     const here = holders();
     const shares = here.map(({ player, key }) => ({ player, share: library.openOne(key.bytes, position) }));
@@ -318,17 +336,24 @@ function showFingerprints() {
 
 // ---- what a reader does ----
 
-/** Takes in what was found somewhere, and says what could not be read beside it. */
+/** Takes in what was found somewhere; what could not be read stands beside the answer, or where keys are given while there is none. */
 function take(found) {
-    element('problems').replaceChildren(...found.flatMap(({ problems }) => problems).map((words) => make('li', {}, words)));
-    const keys = found.flatMap((one) => one.keys);
-    addKeys(keys);
-    if (element('problems').childElementCount > 0) element('intake').open = true;
-    return keys.length > 0;
+    state.problems = found.flatMap(({ problems }) => problems);
+    addKeys(found.flatMap((one) => one.keys));
 }
 
+function showProblems() {
+    const list = element('problems');
+    list.replaceChildren(...state.problems.map((words) => make('li', {}, words)));
+    if (state.keys.length > 0) element('verdict').after(list);
+    else element('intake').querySelector('summary').after(list);
+}
+
+/** What was pasted stays where something in it could not be read, so that it can be set right. */
 function takeText(text) {
-    if (take([keysOfText(library, text)])) element('paste').value = '';
+    take([keysOfText(library, text)]);
+    if (state.problems.length === 0) element('paste').value = '';
+    else element('intake').open = true;
 }
 
 async function takeFiles(files) {
@@ -349,7 +374,7 @@ function showExample(dealing, from, words) {
     say('example-words', words);
     state.keys = keysApart(library, library.deal(dealing)).map((bytes) => named({ bytes, from, label: null }));
     state.chosen = null;
-    element('problems').replaceChildren();
+    state.problems = [];
     keysChanged();
     toAnswer();
 }
@@ -422,6 +447,7 @@ element('spring').addEventListener('click', () => showExample(springBoard(4), 'd
 element('spring-six').addEventListener('click', () => showExample(springBoard(6), 'dealt here', DEALT_HERE));
 element('small').addEventListener('click', () => showExample(printedDeal(), 'the small board', ALWAYS_THE_SAME));
 element('leave-example').addEventListener('click', () => {
+    state.problems = [];
     leaveExample();
     keysChanged();
     (state.keys.length > 0 ? element('answer') : element('spring')).focus();
@@ -429,9 +455,8 @@ element('leave-example').addEventListener('click', () => {
 element('save').addEventListener('click', save);
 element('print').addEventListener('click', () => window.print());
 element('clear').addEventListener('click', () => {
-    state.aside = null;
     state.keys = [];
-    element('problems').replaceChildren();
+    state.problems = [];
     keysChanged();
     element('files').focus();
 });

@@ -1,6 +1,6 @@
 // Tests of the built page in a headless Chromium, as a club's players use it: the empty page, examples, each way to give keys, keys missing, damaged,
 // changed, of two dealings, of two boards, large boards, keyboard, screen reader, paper, light and dark, a phone's window. What is shown is held
-// against the answers of nosingginger.mjs in node. Pictures go to target/web/pictures; --keep makes one of them README's, which carries a digest of
+// against the answers of nosingginger.mjs in node. Pictures go to target/web/pictures; KEEP_PICTURE makes one of them README's, which carries a digest of
 // the page's sources so that an old one is noticed. Assumes that web/build has run.
 import assert from 'node:assert/strict';
 import { existsSync, mkdirSync, readFileSync, rmSync, writeFileSync } from 'node:fs';
@@ -87,6 +87,15 @@ async function give(page, given, many) {
     await page.until((count) => document.querySelectorAll('#keys li').length === count, many);
 }
 
+/** Writes a square's number where it is asked for. */
+function askSquare(page, number) {
+    return page.run((given) => {
+        const field = document.getElementById('square');
+        field.value = given;
+        field.dispatchEvent(new Event('change'));
+    }, number);
+}
+
 /** What the squares of a table must be called. */
 function squareLabels(table, board, isJoined, piece = null, [first, last] = [0, board.positions]) {
     return Array.from({ length: last - first }, (_, index) => {
@@ -150,6 +159,8 @@ for (const [size, look] of [['1280', DESK], ['390', PHONE]]) {
         assert.equal(await answer(page), sentence('several', { count }));
         assert.deepEqual(await page.run(() => [document.getElementById('verdict').className, document.querySelectorAll('main .piece').length,
             document.querySelectorAll('#joined .wrong').length]), ['verdict warning', 0, count]);
+        assert.deepEqual(await page.run(() => [document.querySelectorAll('.fits, td[aria-selected="true"]').length, document.getElementById('keys').textContent.includes('\u2713')]),
+            [0, false]);
         const colours = await page.run(() => ['verdict', 'answer'].map((id) => getComputedStyle(document.getElementById(id)).color));
         assert.notEqual(colours[1], colours[0]);
         await page.screenshot(`${pictures}${size}-several.png`);
@@ -162,7 +173,7 @@ onPage('the small board', async (page) => {
     const keys = keysApart(library, library.deal(dealing));
     assert.equal(await answer(page), 'The piece lies on square 4 (line 0, column 4). Its value is A5.');
     assert.equal(await page.text('#caution'), sentence('caution'));
-    assert.deepEqual(await keyLines(page), keys.map((key, player) => `Player ${player} \u2713 fits the small board ${fingerprint(key).slice(0, 4)}\u2026`));
+    assert.deepEqual(await keyLines(page), keys.map((key, player) => `Player ${player} \u2713 can be read the small board ${fingerprint(key).slice(0, 4)}\u2026`));
     assert.deepEqual(await labels(page, 'joined'), squareLabels(joinedTable(dealing), dealing, true, 4));
     assert.deepEqual(await looking(page, 'joined', 'piece'), [4]);
     assert.equal(await isShown(page, '#sensors-switch'), false);
@@ -204,14 +215,9 @@ onPage('the spring board with six players: headings, sensors, shares, groups', a
     assert.equal(await page.text('#shares caption'), 'Square 15 (line 1, column 7, sensor 8)');
     assert.deepEqual(await sharesShown(page), [...tables.map((table, player) => [`Player ${player}`, hexadecimal(table.subarray(15, 16))]),
         ['Together', hexadecimal(joined.subarray(15, 16))]]);
-    const ask = (value) => page.run((given) => {
-        const field = document.getElementById('square');
-        field.value = given;
-        field.dispatchEvent(new Event('change'));
-    }, value);
-    await ask('72');
+    await askSquare(page, '72');
     assert.equal(await page.text('#square-problem'), `This board has squares 0 to 71. ${refusalWords(14)}`);
-    await ask('');
+    await askSquare(page, '');
     assert.equal(await page.text('#square-problem'), 'A square is a whole number from 0 on.');
 });
 
@@ -251,6 +257,8 @@ onPage('keys that come one after another: what is missing is said, and its numbe
     assert.equal(await isShown(page, '#refusal p'), false);
     assert.equal(await page.text('#refusal p'), refusalWords(12));
     await open(page, 'square-part');
+    assert.equal(await page.text('#square-words'), 'Choose a square on the board, or write its number.');
+    await askSquare(page, '15');
     assert.equal(await page.text('#square-words'), 'Three of six keys. All are needed.');
     const says = (words) => page.until((wanted) => document.getElementById('answer').textContent === wanted, words);
     await page.giveFiles('#files', [1, 2].map((player) => stored(`later-${player}.key`, keys[player])));
@@ -290,11 +298,11 @@ onPage('any order, copies, another board\u2019s key, two keys of one player', as
     const keys = keysApart(library, library.deal(dealing));
     await give(page, [0, 1, 4, 3, 2, 5].map((player, index) => stored(`order-${index}.key`, keys[player])), 6);
     assert.equal(await answer(page), pieceWords(dealing));
-    assert.match((await keyLines(page))[2], /^Player 2 \u2713 fits order-4.key /);
+    assert.match((await keyLines(page))[2], /^Player 2 \u2713 can be read order-4.key /);
     // A copy and a key of another board are named, and do not stop the match.
     await give(page, [stored('again.key', keys[0]), stored('other.key', springKeys(3)[1])], 8);
     assert.equal(await answer(page), pieceWords(dealing));
-    assert.deepEqual((await keyLines(page)).slice(6), [`Player 0 \u2713 fits again.key ${capital(sentence('copy', { player: 0 }))}`,
+    assert.deepEqual((await keyLines(page)).slice(6), [`Player 0 \u2713 can be read again.key ${capital(sentence('copy', { player: 0 }))}`,
         '\u2717 does not fit other.key This key is of a board for three players']);
     assert.equal(await page.text('#standing'), 'All six keys are here. One key does not fit.');
     // Another key of player 0 does.
@@ -302,10 +310,32 @@ onPage('any order, copies, another board\u2019s key, two keys of one player', as
     assert.equal(await answer(page), `${capital(sentence('conflict', { player: 0 }))}.`);
     assert.equal(await page.text('#refusal p'), refusalWords(12));
     assert.equal(await isShown(page, '#board-part'), false);
-    await open(page, 'intake');
-    await page.click('#keys li.conflict summary');
-    await page.click('#keys li.conflict button');
+    // Nothing shows them together by another way, and neither of the two looks right.
+    assert.equal(await page.text('#standing'), 'Five of six keys are here. Three keys do not fit.');
+    assert.deepEqual((await keyStates(page)).filter((look) => look === 'conflict').length, 2);
+    await open(page, 'group-part');
+    assert.deepEqual(await page.run(() => [...document.querySelectorAll('[data-member]')].map((box) => box.dataset.member)), [...'12345']);
+    await askSquare(page, '5');
+    assert.equal(await page.text('#square-words'), 'Five of six keys. All are needed.');
+    const rival = '#keys li.conflict:last-child';
+    await page.click(`${rival} summary`);
+    await page.click(`${rival} button`);
     assert.equal(await answer(page), pieceWords(dealing));
+});
+
+onPage('another whole match takes the place of the one that is here; a label that is wrong is said', async (page) => {
+    const [one, other] = [springDealing(4), springDealing(4, 77)];
+    const keysOf = (dealing) => keysApart(library, library.deal(dealing));
+    await give(page, [stored('one.txt', matchText(keysOf(one)))], 4);
+    await page.giveFiles('#files', [stored('other.txt', matchText(keysOf(other)))]);
+    await page.until((words) => document.getElementById('answer').textContent === words, pieceWords(other));
+    assert.equal((await keyLines(page)).length, 4);
+    assert.equal(await page.text('#standing'), 'All four keys are here. They took the place of those that were here.');
+    await page.click('#clear');
+    const fromOne = keysOf(one).map((key, player) => `player ${player + 1}: ${hexadecimal(key)}\n`).join('');
+    await give(page, [stored('from-one.txt', fromOne)], 4);
+    assert.equal(await answer(page), pieceWords(one));
+    assert.ok((await keyLines(page))[0].endsWith(capital(sentence('other label', { label: 1, player: 0 }))));
 });
 
 onPage('zero everywhere is said', async (page) => {
@@ -352,12 +382,14 @@ onPage('text: pasted, typed, quoted, numbered, wrapped, wrong; dropped files', a
     };
     await wrong('02 00 0G', 'line 1: \u201CG\u201D is no hexadecimal digit');
     assert.equal(await isShown(page, '#result'), false);
-    await wrong('020', 'line 1: 3 hexadecimal digits, and a byte has two');
+    await wrong('020', sentence('odd digits', { where: 'line 1', count: 3 }));
     await wrong(' ', 'the text is empty');
     await wrong(`${matchText(keys)}\nPlayed on Sunday`, 'line 4: \u201CP\u201D is no hexadecimal digit');
     assert.equal(await answer(page), pieceWords(printedDeal()));
     assert.ok(await isShown(page, '#problems'));
+    assert.match(await page.run(() => document.getElementById('paste').value), /Played on Sunday$/);
     await page.click('#clear');
+    await page.run(() => { document.getElementById('paste').value = ''; });
     await page.run((given) => {
         const dropped = new DataTransfer();
         given.forEach((bytes, index) => dropped.items.add(new File([Uint8Array.from(bytes)], `${index}.key`)));
@@ -371,7 +403,13 @@ onPage('a file that is too long or empty is named, and the others are read', asy
     await give(page, [stored('a-photo.jpg', new Uint8Array(17 * 1024 * 1024)), stored('nothing.key', ''), ...keys.map((key, player) => stored(`z-${player}.key`, key))], 2);
     assert.equal(await answer(page), pieceWords(printedDeal()));
     assert.deepEqual(await problems(page), ['a-photo.jpg is too long: no board has so many bytes of keys', 'nothing.key is empty']);
+    const { top, bottom } = await page.run(() => document.getElementById('problems').getBoundingClientRect().toJSON());
+    assert.ok(top > 0 && bottom < DESK.height, 'what could not be read is out of sight');
+    await page.click('#clear');
+    await page.giveFiles('#files', [stored('nothing.key', '')]);
+    await page.until(() => document.querySelectorAll('#problems li').length === 1);
     assert.ok(await isShown(page, '#problems'));
+    assert.equal(await isShown(page, '#result'), false);
 });
 
 onPage('an example does not throw loaded keys away', async (page) => {
@@ -386,6 +424,11 @@ onPage('an example does not throw loaded keys away', async (page) => {
     await page.click('#small');
     assert.equal(await page.text('#example-words'), 'An example: a board of six squares for two players, always the same.');
     assert.equal(await page.text('#leave-example'), 'Back to your keys');
+    assert.equal(await isShown(page, '#clear'), false);
+    // A file without keys does not end it.
+    await page.giveFiles('#files', [stored('nothing.key', '')]);
+    await page.until(() => document.querySelectorAll('#problems li').length === 1);
+    assert.equal((await keyLines(page)).length, 2);
     await page.click('#leave-example');
     assert.equal(await answer(page), pieceWords(dealing));
     assert.equal(await isShown(page, '#example-note'), false);
@@ -505,12 +548,12 @@ onPage('by keyboard alone', async (page) => {
         }
         return order;
     };
-    assert.deepEqual(await tabbed(8), ['To the answer', 'files', 'paste', 'Read this text', 'spring', 'spring-six', 'small', 'What is proved, and what is not']);
+    assert.deepEqual(await tabbed(7), ['files', 'paste', 'Read this text', 'spring', 'spring-six', 'small', 'What is proved, and what is not']);
     await page.press('Tab', { shift: true });
     await page.press('Enter');
     assert.equal(await focused(), 'answer');
     const lines = await keyLines(page);
-    assert.deepEqual(await tabbed(9), ['Square 4 (line 0, column 4): value A5, the piece', ...lines, 'save', 'print', 'clear',
+    assert.deepEqual(await tabbed(9), ['leave-example', 'Square 4 (line 0, column 4): value A5, the piece', ...lines, 'save', 'print',
         'All fingerprints, whole', 'Give other keys', 'One square, key by key']);
     // In a board: arrows move, Enter chooses, and the board is one stop.
     await page.run(() => document.querySelector('#joined td[tabindex="0"]').focus());
