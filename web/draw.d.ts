@@ -5,7 +5,7 @@ import type { Board, Dealing } from './nosingginger.js';
 export function systemBytes(length: number): Uint8Array;
 
 /**
- * A dealing of this board with a drawn point and a drawn value that is not zero. The source of random bytes, the system where none is
+ * A dealing of this board with a drawn point and a drawn value that is not zero. A board that cannot be dealt is a RangeError. The source of random bytes, the system where none is
  * given, answers as many bytes as it is asked for, drawn uniformly, and never the same again.
  */
 export function randomDealing(board: Board, random?: (length: number) => Uint8Array): Dealing;

@@ -25,6 +25,10 @@ function below(bound, random) {
     }
 }
 
+function requireNumber(name, number, least, most) {
+    if (!Number.isInteger(number) || number < least || number > most) throw new RangeError(`${name} is not ${least} to ${most}: ${String(number)}`);
+}
+
 /** The columns of one parity for this many players, each exactly once, in an order drawn uniformly. */
 function shuffledArray(players, parity, random) {
     const ones = (column) => column.toString(2).replaceAll('0', '').length;
@@ -37,12 +41,16 @@ function shuffledArray(players, parity, random) {
 }
 
 /**
- * A dealing of this board with a drawn point and a drawn value that is not zero.
+ * A dealing of this board with a drawn point and a drawn value that is not zero. A board that cannot be dealt is a RangeError.
  * @param {import('./nosingginger.mjs').Board} board
  * @param {(length: number) => Uint8Array} [random] the source of random bytes; the system's where none is given
  * @returns {import('./nosingginger.mjs').Dealing}
  */
 export function randomDealing({ players, positions, width, valueBytes }, random = systemBytes) {
+    requireNumber('players', players, 2, 6);
+    requireNumber('positions', positions, 1, 65536);
+    requireNumber('width', width, Math.ceil(positions / 256), 256);
+    requireNumber('valueBytes', valueBytes, 1, 16);
     const columns = 2 ** (players - 1);
     const gridRows = Math.ceil(positions / width);
     const point = below(positions, random);

@@ -37,7 +37,7 @@ export const REFUSALS: readonly [
     Refusal<17, 'REFUSED_SENSOR', "the sensor is none of the spring board's 72">,
 ];
 
-/** A refusal's number, 1 to 17. */
+/** A refusal's number, from 1 on. */
 export type RefusalNumber = (typeof REFUSALS)[number]['number'];
 /** A refusal's name, as 'REFUSED_LENGTH'. */
 export type RefusalName = (typeof REFUSALS)[number]['name'];
@@ -96,7 +96,7 @@ export interface Dealing extends Board {
  *     browser it is what fetch takes: a relative one leads from the page's base address, in a worker from the worker's script.
  * Where nothing can be had, or something else than Nosingginger's module, the promise is rejected.
  */
-export function load(source?: ArrayBuffer | ArrayBufferView | (object & WebAssembly.Module) | URL | string): Promise<Nosingginger>;
+export function load(source?: ArrayBuffer | ArrayBufferView | (object & WebAssembly.Module) | (object & URL) | string): Promise<Nosingginger>;
 
 /** Makes the operations from the module's bytes in base64, as a page has them that is one file. */
 export function loadBase64(text: string): Promise<Nosingginger>;

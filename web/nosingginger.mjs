@@ -39,7 +39,7 @@ export class Refused extends Error {
     constructor(number) {
         const { name, words } = REFUSALS[number - 1] ?? { name: 'REFUSED', words: 'a number that is not known here' };
         super(`refused ${number}: ${words}`);
-        /** Document 01's number, 1 to 17. @type {number} */
+        /** Document 01's number, from 1 on. @type {number} */
         this.number = number;
         /** The number's name, as 'REFUSED_LENGTH'. @type {string} */
         this.name = name;
@@ -104,6 +104,8 @@ const NODE_FILES = 'node:fs/promises';
 
 /** The bytes themselves, or those that a place holds. A browser fetches nothing from files: there, lend the bytes or base64. */
 async function bytesAt(source) {
+    // An engine compiles a Uint8Array, and not every other view of bytes.
+    if (ArrayBuffer.isView(source)) return new Uint8Array(source.buffer, source.byteOffset, source.byteLength);
     if (!(source instanceof URL) && typeof source !== 'string') return source;
     const place = WHOLE_URL.test(source) ? new URL(source) : source;
     if (globalThis.process?.versions?.node && (typeof place === 'string' || place.protocol === 'file:')) {
@@ -306,9 +308,11 @@ export class Nosingginger {
 
     /** Runs a call that writes `room()` bytes, to the lent output or to a new one, and answers them. */
     #answer(out, room, inputs, call) {
-        const output = out ?? new Uint8Array(room());
+        // Asked before the call: the output may be the memory of an input.
+        const length = room();
+        const output = out ?? new Uint8Array(length);
         this.#write(inputs, output, call);
-        return out ? output.subarray(0, room()) : output;
+        return output.subarray(0, length);
     }
 
     /** Runs a call that writes one number. */

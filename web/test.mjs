@@ -42,7 +42,7 @@ test('the module has no imports and all calls', () => {
 
 test('it is made from bytes, a module, a place and base64', async () => {
     const sources = [moduleBytes, moduleBytes.buffer.slice(moduleBytes.byteOffset, moduleBytes.byteOffset + moduleBytes.length),
-        new WebAssembly.Module(moduleBytes), new URL('target/targets/wasm32/nosingginger.wasm', root)];
+        new DataView(moduleBytes.buffer, moduleBytes.byteOffset, moduleBytes.length), new WebAssembly.Module(moduleBytes), new URL('target/targets/wasm32/nosingginger.wasm', root)];
     for (const source of sources) assert.equal((await load(source)).sensorPosition(8), 15);
     assert.equal((await loadBase64(moduleBytes.toString('base64'))).sensorPosition(8), 15);
     assert.equal((await load(`data:application/wasm;base64,${moduleBytes.toString('base64')}`)).sensorPosition(8), 15);
@@ -375,6 +375,24 @@ test('the system\u2019s bytes are as many as are asked for, on the largest board
     const dealing = randomDealing({ players: 6, positions: 65536, width: 256, valueBytes: 16 });
     const table = nosingginger.joinKeys(nosingginger.deal(dealing));
     assert.deepEqual(marked(table, dealing), [dealing.point]);
+});
+
+test('a board that cannot be dealt is not drawn for', () => {
+    const board = { players: 2, positions: 6, width: 4, valueBytes: 1 };
+    const wrong = [{}, { ...board, players: 1 }, { ...board, players: 7 }, { ...board, positions: 0 }, { ...board, positions: 65537, width: 256 },
+        { ...board, width: 0 }, { ...board, width: 257 }, { ...board, positions: 257, width: 1 }, { ...board, valueBytes: 0 },
+        { ...board, valueBytes: 17 }, { ...board, valueBytes: undefined }, { ...board, positions: 1.5 }];
+    for (const one of wrong) assert.throws(() => randomDealing(one), RangeError);
+});
+
+test('the output may be the memory of an input', () => {
+    for (const players of [2, 4]) {
+        const keys = nosingginger.deal(spring(players));
+        const [key] = keysApart(nosingginger, keys).map((bytes) => bytes.slice());
+        const [table, joined] = [nosingginger.openAll(key), nosingginger.joinKeys(keys)];
+        assert.deepEqual(nosingginger.openAll(key, key), table);
+        assert.deepEqual(nosingginger.joinKeys(keys, keys), joined);
+    }
 });
 
 test('a drawn dealing is accepted, on every kind of board', () => {

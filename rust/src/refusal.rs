@@ -7,7 +7,9 @@ use core::fmt;
 macro_rules! refusals {
     ($($number:literal $variant:ident $name:literal $words:literal)*) => {
         /// Why a call was refused: the first of these that fits, in the order that each function names.
+        /// A later version may have more.
         #[derive(Clone, Copy, Debug, PartialEq, Eq, Hash, PartialOrd, Ord)]
+        #[non_exhaustive]
         #[repr(u32)]
         pub enum Refusal {
             $(#[doc = concat!($number, ": ", $words, ".")] $variant = $number,)*
@@ -55,7 +57,7 @@ refusals! {
 }
 
 impl Refusal {
-    /// The refusal's number, 1 to 17.
+    /// The refusal's number, from 1 on.
     pub const fn number(self) -> u32 {
         self as u32
     }

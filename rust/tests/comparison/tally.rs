@@ -57,7 +57,7 @@ const LIMITS: [&str; 21] = [
     "empty output accepted",
 ];
 
-/// Accepted, and the refusals 1 to 17.
+/// Accepted, and every refusal.
 const NUMBERS: usize = 18;
 
 pub struct Tally {
