@@ -55,8 +55,29 @@ def is_accepted(library, key):
     return library.check(key)[1] is None
 
 
+def asked_length(library, given):
+    """How long the key that begins these bytes says it is; None where no key begins them."""
+    header = header_numbers(given)
+    return None if header is None else library.key_length(header)
+
+
+def keys_by_headers(library, given):
+    """The keys in these bytes by the length that each asks for, and what is left behind the last; none where not two of them are whole."""
+    parts, at = [], 0
+    while at < len(given):
+        asked = asked_length(library, given[at:])
+        if asked is None or asked > len(given) - at or not long_as_asked(library, given[at:at + asked]):
+            break
+        parts.append(given[at:at + asked])
+        at += asked
+    if len(parts) < 2:
+        return []
+    return parts if at == len(given) else parts + [given[at:]]
+
+
 def keys_apart(library, given):
-    """The keys that stand one after another in these bytes; all of them as one, where no cut in equal parts gives a key."""
+    """The keys that stand one after another in these bytes, cut in equal parts or by their headers; all of them as one, where neither gives
+    a key."""
     best, most = [given], 0
     for many in range(1, MOST_KEYS + 1):
         if len(given) % many != 0:
@@ -66,7 +87,7 @@ def keys_apart(library, given):
         fitting = sum(1 for part in parts if long_as_asked(library, part))
         if fitting > most:
             best, most = parts, fitting
-    return best
+    return best if most else keys_by_headers(library, given) or best
 
 
 # ---- the keys in a text ----
@@ -76,15 +97,16 @@ UNSEEN = re.compile("[\u200B-\u200D\u2060\uFEFF]")
 SPACES = re.compile("[\t\u00A0\u1680\u2000-\u200A\u202F\u205F\u3000]")
 # What people and programs put around a line: mail's quotes, bullets, quotation marks, brackets, fences.
 BEFORE = " >|*\u2022\u2013\"'\u201C\u201D\u201E\u2018\u2019\u00AB\u00BB`[](){}-"
-BEHIND = " \"'\u201C\u201D\u2018\u2019\u00AB\u00BB`[](){},;."
+BEHIND = " \"'\u201C\u201D\u2018\u2019\u00AB\u00BB`[](){},;.="
 LABEL = re.compile("^player *#?([0-9]{1,2})[\"'\u201D\u2019]*(?:s? key)? *[:=.)-]* *", re.IGNORECASE | re.ASCII)
 NUMBERED = re.compile("^(?:[0-9]{1,3}(?:[.)\\]]+:? *|: +)|#[0-9]{1,3}[.:)\\]]* +)")
+# Any other name in front of digits: "Anna: 0400..".
+NAMED = re.compile("^.{1,80}?[:=] *(?=[0-9A-Fa-f][0-9A-Fa-f ,;:_-]{31,}$)")
 COMMENT = re.compile("^(?:#|//)")
 NO_DIGIT = re.compile("[^0-9A-Fa-f]")
-# The shortest key there is has 40 bytes; a fingerprint has 32.
-LONG_ROW = re.compile("(?<![0-9A-Za-z])(?:0[xX])?([0-9A-Fa-f]{80,})(?![0-9A-Za-z])")
-PRINT = re.compile("(?:^|[^0-9A-Fa-f])[0-9A-Fa-f]{64}(?:[^0-9A-Fa-f]|$)")
-PRINT_DIGITS = 64
+# A row of letters and digits that is long enough to be a fingerprint or a part of a key; the shortest key there is has 40 bytes.
+LONG_ROW = re.compile("[0-9A-Za-z]{40,}")
+PRINT_BYTES = 32
 # A row of fewer signs, some of which are no digits, is a word rather than a damaged key.
 LEAST_DAMAGED = 16
 CONTROL = re.compile("[\u0000-\u0008\u000E-\u001F\u007F]")
@@ -96,34 +118,53 @@ Line = collections.namedtuple("Line", "number text label begins digits other")
 Found = collections.namedtuple("Found", "bytes origin label")
 
 
+def digits_of(text):
+    """A line without what stands between digits."""
+    return re.sub("[ ,;:_-]", "", re.sub(r"\b0x", "", text, flags=re.IGNORECASE | re.ASCII))
+
+
 def read_line(number, text):
     rest = text.lstrip(BEFORE).rstrip(BEHIND)
     label = LABEL.search(rest)
-    numbered = label or NUMBERED.search(rest)
+    numbered = label or NUMBERED.search(rest) or (NAMED.search(rest) if NO_DIGIT.search(digits_of(rest)) else None)
     if numbered:
         rest = rest[numbered.end():].lstrip(BEFORE)
     elif COMMENT.search(rest):
         rest = ""
-    digits = re.sub("[ ,;:_-]", "", re.sub(r"\b0x", "", rest, flags=re.IGNORECASE | re.ASCII))
+    digits = digits_of(rest)
     other = NO_DIGIT.search(digits)
     return Line(number, text, int(label.group(1)) if label else None, bool(numbered), digits, other and other.group())
+
+
+def rows_of(line):
+    """The long rows of letters and digits in a line, whatever stands around them."""
+    return [re.sub("^0[xX]", "", row) for row in LONG_ROW.findall(line.text)]
+
+
+def has_print(line):
+    """A line of words around a fingerprint."""
+    rows = rows_of(line)
+    return len(rows) == 1 and len(rows[0]) == 2 * PRINT_BYTES and not NO_DIGIT.search(rows[0])
 
 
 def is_words(line):
     """Whether a line with a sign that is no digit is words, or a fingerprint among words, and not a key in which something was changed."""
     signs, digits = len(line.digits), len(line.digits) - len(NO_DIGIT.findall(line.digits))
-    return signs < LEAST_DAMAGED or 5 * digits < 4 * signs or bool(PRINT.search(line.text))
+    return signs < LEAST_DAMAGED or 5 * digits < 4 * signs or has_print(line)
 
 
-def keys_amidst(library, lines):
-    """The keys that stand whole in these lines, whatever stands around them: rows of digits that are accepted."""
-    found = []
-    for line in lines:
-        for row in LONG_ROW.findall(line.text):
-            keys = keys_apart(library, bytes.fromhex(row)) if len(row) % 2 == 0 else []
-            if all(is_accepted(library, key) for key in keys):
-                found += [(line, key) for key in keys]
-    return found
+def read_amidst(library, line, name):
+    """What a line has amidst words, where one of its long rows is a key: each row is a key, or is named. None where none is a key."""
+    found, damage, where = [], [], where_of(name, [line])
+    for row in rows_of(line):
+        other = NO_DIGIT.search(row)
+        if other:
+            damage.append(sentence("no digit", where=where, sign=other.group()))
+        elif len(row) % 2:
+            damage.append(sentence("odd digits", where=where, count=len(row)))
+        else:
+            found += [(line, key) for key in keys_apart(library, bytes.fromhex(row))]
+    return (found, damage, []) if any(is_accepted(library, key) for _, key in found) else None
 
 
 def blocks_of(text):
@@ -156,9 +197,10 @@ def run_on(library, lines):
     for line in lines:
         end += len(line.digits)
         ends.append(end)
-    parts = keys_apart(library, bytes.fromhex(digits))
-    for place, part in enumerate(parts):
-        found.append((next(line for line, end in zip(lines, ends) if 2 * len(part) * place < end), part))
+    start = 0
+    for part in keys_apart(library, bytes.fromhex(digits)):
+        found.append((next(line for line, end in zip(lines, ends) if start < end), part))
+        start += 2 * len(part)
     return found
 
 
@@ -177,85 +219,88 @@ def where_of(name, lines):
     return "%s%s" % (name and name + ", ", "line %d" % first if first == last else "lines %d to %d" % (first, last))
 
 
-def wrong_words(wrong, name):
-    """What is said of these lines: of what may be a damaged key, and of words."""
-    def said(line):
-        if PRINT.search(line.text):
-            return sentence("fingerprint", where=where_of(name, [line]))
-        return sentence("no digit", where=where_of(name, [line]), sign=line.other)
-    return [said(line) for line in wrong if not is_words(line)], [said(line) for line in wrong if is_words(line)]
-
-
 def odd_words(lines, name):
     return sentence("odd digits", where=where_of(name, lines), count=sum(len(line.digits) for line in lines))
 
 
-def beside_them(keys, lines, name):
-    """These keys, and beside them a key to each of these lines; a line that has half a byte is named."""
-    whole = [line for line in lines if len(line.digits) % 2 == 0]
-    found = sorted(keys + by_line(whole), key=lambda key: key[0].number)
-    return found, [odd_words([line], name) for line in lines if len(line.digits) % 2]
+def wrong_words(line, name):
+    where = where_of(name, [line])
+    return sentence("fingerprint", where=where) if has_print(line) else sentence("no digit", where=where, sign=line.other)
 
 
-def lines_without(keys, lines):
-    having = [line for line, _ in keys]
-    return [line for line in lines if line not in having]
-
-
-def read_digits(library, lines, name):
-    """The keys of a block of digits alone, and what is wrong with it."""
-    read = keys_of_block(library, lines)
-    if any(is_accepted(library, key) for _, key in read):
-        return read, [], []
-    amidst = keys_amidst(library, lines)
+def read_line_alone(library, line, name):
+    """What is in a line by itself: keys, what may be a damaged one, and words."""
+    amidst = read_amidst(library, line, name)
     if amidst:
-        return (*beside_them(amidst, lines_without(amidst, lines), name), [])
-    if not read:
-        return [], [odd_words(lines, name)], []
-    if len(lines) > 1 or len(lines[0].digits) != PRINT_DIGITS:
-        return read, [], []
-    return [], [], [sentence("fingerprint", where=where_of(name, lines))]
+        return amidst
+    if line.other is not None:
+        said = [wrong_words(line, name)]
+        return ([], [], said) if is_words(line) else ([], said, [])
+    return (by_line([line]), [], []) if len(line.digits) % 2 == 0 else ([], [odd_words([line], name)], [])
+
+
+def read_each(library, lines, name):
+    """What is in these lines, each by itself."""
+    reads = [read_line_alone(library, line, name) for line in lines]
+    return tuple(sum((read[place] for read in reads), []) for place in range(3))
 
 
 def read_block(library, lines, name):
     """The keys of one block, and what is wrong with it: sentences of what may be a damaged key, and of words."""
-    odd = [line for line in lines if line.other is not None]
-    if not odd:
-        return read_digits(library, lines, name)
-    amidst = keys_amidst(library, odd)
-    damage, words = wrong_words(lines_without(amidst, odd), name)
-    found, halves = beside_them(amidst, [line for line in lines if line.other is None], name)
-    # Where no line is a key by itself, these are parts of one in which something was changed, and that is named.
-    if not any(is_accepted(library, key) for _, key in found):
-        return [], damage, words
-    return found, damage + halves, words
+    is_digits = all(line.other is None for line in lines)
+    runs = keys_of_block(library, lines) if is_digits else []
+    if any(is_accepted(library, key) for _, key in runs):
+        return runs, [], []
+    each = read_each(library, lines, name)
+    if any(is_accepted(library, key) for _, key in each[0]) or (not is_digits and len(lines) == 1):
+        return each
+    # No line is a key by itself: these are parts of one, in which something was changed.
+    if is_digits:
+        return (runs, [], []) if runs else ([], [odd_words(lines, name)], [])
+    damage = [wrong_words(line, name) for line in lines if line.other is not None]
+    return [], damage + [sentence("left out", where=where_of(name, lines))], []
+
+
+def limited(library, found, problems, where):
+    """Not more refused keys and sentences of one text than a person reads; how many more there are is said."""
+    if not found and not problems:
+        return [], [sentence("empty", where=where)]
+    refused = [key for key in found if not is_accepted(library, key.bytes)]
+    dropped = [id(key) for key in refused[MOST_WRONG:]] if len(refused) > MOST_WRONG + 1 else []
+    shown = problems[:MOST_WRONG] if len(problems) > MOST_WRONG + 1 else problems
+    count = len(dropped) + len(problems) - len(shown)
+    keys = [key for key in found if id(key) not in set(dropped)] if dropped else found
+    return keys, shown + ([sentence("more wrong", where=where, count=count)] if count else [])
 
 
 def keys_of_text(library, text, name=""):
     """The keys in a text, and what could not be read. A line that is no hexadecimal takes none of the others with it; what may be a damaged
     key is named before words are."""
-    keys, damage, words = [], [], []
+    found, damage, words = [], [], []
     for label, lines in blocks_of(text):
-        found, damaged, said = read_block(library, lines, name)
-        keys += [Found(key, where_of(name, [line]), label if line is lines[0] else None) for line, key in found]
+        keys, damaged, said = read_block(library, lines, name)
+        labelled = len(keys) == 1 and keys[0][0] is lines[0]
+        found += [Found(key, where_of(name, [line]), label if labelled else None) for line, key in keys]
         damage += damaged
         words += said
-    problems, where = damage + words, name or "the text"
-    if not keys and not problems:
-        problems.append(sentence("empty", where=where))
-    if len(problems) > MOST_WRONG + 1:
-        problems[MOST_WRONG:] = [sentence("more wrong", where=where, count=len(problems) - MOST_WRONG)]
-    return keys, problems
+    # As many bytes as a fingerprint has, for no more than there are players; more are parts of something else.
+    prints = [key for key in found if len(key.bytes) == PRINT_BYTES]
+    if len(prints) <= MOST_KEYS:
+        found = [key for key in found if len(key.bytes) != PRINT_BYTES]
+        damage += [sentence("fingerprint", where=key.origin) for key in prints]
+    return limited(library, found, damage + words, name or "the text")
 
 
 def text_of(given):
-    """The text that these bytes are, in UTF-8 or, with its mark, UTF-16; None where they are none. A binary key never begins as a text
-    does."""
+    """The text that these bytes are, in UTF-8 or, with its mark, UTF-16, or else a byte to a sign; None where they are none. A binary key
+    never begins as a text does."""
     wide = {b"\xFF\xFE": "utf-16-le", b"\xFE\xFF": "utf-16-be"}.get(given[:2])
     try:
         text = given.decode(wide or "utf-8")
     except UnicodeDecodeError:
-        return None
+        if wide:
+            return None
+        text = given.decode("latin-1")
     return None if CONTROL.search(text) else text
 
 

@@ -241,8 +241,11 @@ class Library:
         return match.Header(*map(int, words)), None
 
     def key_length(self, board):
-        """Key length, of a board that is one."""
-        return int(player(["length", str(board.players), str(board.positions), str(board.width), str(board.valueBytes)])[0])
+        """Key length; None where it is refused."""
+        try:
+            return int(player(["length", str(board.players), str(board.positions), str(board.width), str(board.valueBytes)])[0])
+        except Refused:
+            return None
 
     def join(self, keys):
         """Join keys: by the program joiner, which prints every square; where keys or table are too long for it, by the C call."""

@@ -67,7 +67,28 @@ function longAsAsked(library, bytes) {
     return refusal === null || refusal.name === 'REFUSED_MARKS';
 }
 
-/** The keys that stand one after another in these bytes; all of them as one, where no cut in equal parts gives a key. */
+/** How long the key that begins these bytes says it is; null where no key begins them. */
+function askedLength(library, bytes) {
+    const header = headerNumbers(bytes);
+    return header === null ? null : answerOf(() => library.keyLength(header)).value;
+}
+
+/** The keys in these bytes by the length that each asks for, and what is left behind the last; none where not two of them are whole. */
+function keysByHeaders(library, bytes) {
+    const parts = [];
+    let at = 0;
+    while (at < bytes.length) {
+        const rest = bytes.subarray(at);
+        const asked = askedLength(library, rest);
+        if (asked === null || asked > rest.length || !longAsAsked(library, rest.subarray(0, asked))) break;
+        parts.push(rest.subarray(0, asked));
+        at += asked;
+    }
+    if (parts.length < 2) return [];
+    return at === bytes.length ? parts : [...parts, bytes.subarray(at)];
+}
+
+/** The keys that stand one after another in these bytes, cut in equal parts or by their headers; all of them as one, where neither gives a key. */
 export function keysApart(library, bytes) {
     let best = { parts: [bytes], fitting: 0 };
     for (let many = 1; many <= MOST_KEYS; many += 1) {
@@ -77,7 +98,8 @@ export function keysApart(library, bytes) {
         const fitting = parts.filter((part) => longAsAsked(library, part)).length;
         if (fitting > best.fitting) best = { parts, fitting };
     }
-    return best.parts;
+    const byHeaders = best.fitting === 0 ? keysByHeaders(library, bytes) : [];
+    return byHeaders.length > 0 ? byHeaders : best.parts;
 }
 
 // ---- the keys in a text ----
@@ -87,14 +109,16 @@ const UNSEEN = /[\u200B-\u200D\u2060\uFEFF]/g;
 const SPACES = /[\t\u00A0\u1680\u2000-\u200A\u202F\u205F\u3000]/g;
 // What people and programs put around a line: mail's quotes, bullets, quotation marks, brackets, fences.
 const BEFORE = /^[ >|*\u2022\u2013"'\u201C\u201D\u201E\u2018\u2019\u00AB\u00BB`[\](){}-]+/;
-const BEHIND = ' "\'\u201C\u201D\u2018\u2019\u00AB\u00BB`[](){},;.';
+const BEHIND = ' "\'\u201C\u201D\u2018\u2019\u00AB\u00BB`[](){},;.=';
 const LABEL = /^player *#?([0-9]{1,2})["'\u201D\u2019]*(?:s? key)? *[:=.)-]* */i;
 const NUMBERED = /^(?:[0-9]{1,3}(?:[.)\]]+:? *|: +)|#[0-9]{1,3}[.:)\]]* +)/;
+// Any other name in front of digits: "Anna: 0400..".
+const NAMED = /^.{1,80}?[:=] *(?=[0-9a-f][0-9a-f ,;:_-]{31,}$)/i;
 const COMMENT = /^(?:#|\/\/)/;
-// The shortest key there is has 40 bytes; a fingerprint has 32.
-const LONG_ROW = /(?<![0-9a-z])(?:0x)?([0-9a-f]{80,})(?![0-9a-z])/gi;
-const PRINT = /(?:^|[^0-9a-f])[0-9a-f]{64}(?:[^0-9a-f]|$)/i;
-const PRINT_DIGITS = 64;
+const NO_DIGIT = /[^0-9a-f]/iu;
+// A row of letters and digits that is long enough to be a fingerprint or a part of a key; the shortest key there is has 40 bytes.
+const LONG_ROW = /[0-9a-z]{40,}/gi;
+const PRINT_BYTES = 32;
 // A row of fewer signs, some of which are no digits, is a word rather than a damaged key.
 const LEAST_DAMAGED = 16;
 
@@ -105,29 +129,51 @@ function bare(text) {
     return text.slice(0, end).replace(BEFORE, '');
 }
 
+/** A line without what stands between digits. */
+function digitsOf(text) {
+    return text.replace(/\b0x/gi, '').replace(/[ ,;:_-]/g, '');
+}
+
 /** One line of a text: the player that it says it is of, whether a key begins with it, its hexadecimal digits, and a sign that is none. */
 function readLine(text, number) {
     let rest = bare(text);
     const label = LABEL.exec(rest);
-    const numbered = label ?? NUMBERED.exec(rest);
+    const numbered = label ?? NUMBERED.exec(rest) ?? (NO_DIGIT.test(digitsOf(rest)) ? NAMED.exec(rest) : null);
     if (numbered !== null) rest = rest.slice(numbered[0].length).replace(BEFORE, '');
     else if (COMMENT.test(rest)) rest = '';
-    const digits = rest.replace(/\b0x/gi, '').replace(/[ ,;:_-]/g, '');
-    const [other] = [...digits].filter((sign) => !/^[0-9a-f]$/i.test(sign));
+    const digits = digitsOf(rest);
+    const other = NO_DIGIT.exec(digits)?.[0];
     return { number, text, label: label === null ? null : Number(label[1]), begins: numbered !== null, digits, other };
 }
 
-/** Whether a line with a sign that is no digit is words, or a fingerprint among words, and not a key in which something was changed. */
-function isWords({ digits, text }) {
-    const signs = [...digits];
-    return signs.length < LEAST_DAMAGED || 5 * signs.filter((sign) => /^[0-9a-f]$/i.test(sign)).length < 4 * signs.length || PRINT.test(text);
+/** The long rows of letters and digits in a line, whatever stands around them. */
+function rowsOf({ text }) {
+    return (text.match(LONG_ROW) ?? []).map((row) => row.replace(/^0x/i, ''));
 }
 
-/** The keys that stand whole in these lines, whatever stands around them: rows of digits that are accepted. */
-function keysAmidst(library, lines) {
-    return lines.flatMap((line) => [...line.text.matchAll(LONG_ROW)].filter(([, row]) => row.length % 2 === 0)
-        .map(([, row]) => keysApart(library, bytesOf(row))).filter((keys) => keys.every((bytes) => isAccepted(library, bytes)))
-        .flat().map((bytes) => ({ line, bytes })));
+/** A line of words around a fingerprint. */
+function hasPrint(line) {
+    const rows = rowsOf(line);
+    return rows.length === 1 && rows[0].length === 2 * PRINT_BYTES && !NO_DIGIT.test(rows[0]);
+}
+
+/** Whether a line with a sign that is no digit is words, or a fingerprint among words, and not a key in which something was changed. */
+function isWords(line) {
+    const signs = [...line.digits];
+    const many = signs.filter((sign) => !NO_DIGIT.test(sign)).length;
+    return signs.length < LEAST_DAMAGED || 5 * many < 4 * signs.length || hasPrint(line);
+}
+
+/** What a line has amidst words, where one of its long rows is a key: each row is a key, or is named. */
+function readAmidst(library, line, name) {
+    const rows = rowsOf(line).map((row) => ({ row, other: NO_DIGIT.exec(row)?.[0] }));
+    const whole = rows.filter(({ row, other }) => other === undefined && row.length % 2 === 0);
+    const found = whole.flatMap(({ row }) => keysApart(library, bytesOf(row)).map((bytes) => ({ line, bytes })));
+    if (!found.some(({ bytes }) => isAccepted(library, bytes))) return null;
+    const where = whereOf(name, [line]);
+    const damage = rows.filter((one) => !whole.includes(one)).map(({ row, other }) =>
+        (other === undefined ? sentence('odd digits', { where, count: row.length }) : sentence('no digit', { where, sign: other })));
+    return { found, damage, words: [] };
 }
 
 /** The lines that belong together, and whose they say they are: a labelled or numbered line begins a block; an empty one and words end it. */
@@ -153,10 +199,11 @@ function byLine(lines) {
 function runOn(library, lines) {
     const digits = lines.map((line) => line.digits).join('');
     const parts = digits.length % 2 === 0 ? keysApart(library, bytesOf(digits)) : [];
-    return parts.map((bytes, place) => {
-        let before = 2 * bytes.length * place;
-        const line = lines.find((one) => (before -= one.digits.length) < 0);
-        return { line, bytes };
+    let start = 0;
+    return parts.map((bytes) => {
+        let before = start;
+        start += 2 * bytes.length;
+        return { line: lines.find((one) => (before -= one.digits.length) < 0), bytes };
     });
 }
 
@@ -174,49 +221,46 @@ function whereOf(name, lines) {
     return `${name === '' ? '' : `${name}, `}${first === last ? `line ${first}` : `lines ${first} to ${last}`}`;
 }
 
-/** These keys, and beside them a key to each of these lines; a line that has half a byte is named. */
-function besideThem(keys, lines, name) {
-    const isWhole = ({ digits }) => digits.length % 2 === 0;
-    const found = [...keys, ...byLine(lines.filter(isWhole))].sort((one, other) => one.line.number - other.line.number);
-    return { found, damage: lines.filter((line) => !isWhole(line)).map((line) => oddWords([line], name)) };
+/** What is in a line by itself: keys, what may be a damaged one, and words. */
+function readAlone(library, line, name) {
+    const amidst = readAmidst(library, line, name);
+    if (amidst !== null) return amidst;
+    if (line.other !== undefined) {
+        const said = [wrongWords(line, name)];
+        return isWords(line) ? { found: [], damage: [], words: said } : { found: [], damage: said, words: [] };
+    }
+    const isWhole = line.digits.length % 2 === 0;
+    return { found: isWhole ? byLine([line]) : [], damage: isWhole ? [] : [oddWords([line], name)], words: [] };
+}
+
+/** What is in these lines, each by itself. */
+function readEach(library, lines, name) {
+    const reads = lines.map((line) => readAlone(library, line, name));
+    const all = (part) => reads.flatMap((read) => read[part]);
+    return { found: all('found'), damage: all('damage'), words: all('words') };
 }
 
 function oddWords(lines, name) {
     return sentence('odd digits', { where: whereOf(name, lines), count: lines.reduce((sum, { digits }) => sum + digits.length, 0) });
 }
 
-/** The keys of a block of digits alone, and what is wrong with it. */
-function readDigits(library, lines, name) {
-    const read = keysOfBlock(library, lines);
-    if (read.some(({ bytes }) => isAccepted(library, bytes))) return { found: read, damage: [], words: [] };
-    const amidst = keysAmidst(library, lines);
-    if (amidst.length > 0) return { ...besideThem(amidst, linesWithout(amidst, lines), name), words: [] };
-    if (read.length === 0) return { found: [], damage: [oddWords(lines, name)], words: [] };
-    if (lines.length > 1 || lines[0].digits.length !== PRINT_DIGITS) return { found: read, damage: [], words: [] };
-    return { found: [], damage: [], words: [sentence('fingerprint', { where: whereOf(name, lines) })] };
-}
-
-function linesWithout(keys, lines) {
-    return lines.filter((line) => !keys.some((key) => key.line === line));
+function wrongWords(line, name) {
+    const where = whereOf(name, [line]);
+    return hasPrint(line) ? sentence('fingerprint', { where }) : sentence('no digit', { where, sign: line.other });
 }
 
 /** The keys of one block, and what is wrong with it: sentences of what may be a damaged key, and of words. */
 function readBlock(library, lines, name) {
-    const odd = lines.filter(({ other }) => other !== undefined);
-    if (odd.length === 0) return readDigits(library, lines, name);
-    const amidst = keysAmidst(library, odd);
-    const { damage, words } = wrongWords(linesWithout(amidst, odd), name);
-    const right = lines.filter(({ other }) => other === undefined);
-    const beside = besideThem(amidst, right, name);
-    // Where no line is a key by itself, these are parts of one in which something was changed, and that is named.
-    if (!beside.found.some(({ bytes }) => isAccepted(library, bytes))) return { found: [], damage, words };
-    return { found: beside.found, damage: [...damage, ...beside.damage], words };
-}
-
-function wrongWords(wrong, name) {
-    const said = (line) => (PRINT.test(line.text) ? sentence('fingerprint', { where: whereOf(name, [line]) })
-        : sentence('no digit', { where: whereOf(name, [line]), sign: line.other }));
-    return { damage: wrong.filter((line) => !isWords(line)).map(said), words: wrong.filter(isWords).map(said) };
+    const isKey = ({ bytes }) => isAccepted(library, bytes);
+    const isDigits = lines.every(({ other }) => other === undefined);
+    const runs = isDigits ? keysOfBlock(library, lines) : [];
+    if (runs.some(isKey)) return { found: runs, damage: [], words: [] };
+    const each = readEach(library, lines, name);
+    if (each.found.some(isKey) || (!isDigits && lines.length === 1)) return each;
+    // No line is a key by itself: these are parts of one, in which something was changed.
+    if (isDigits) return runs.length > 0 ? { found: runs, damage: [], words: [] } : { found: [], damage: [oddWords(lines, name)], words: [] };
+    const damage = lines.filter(({ other }) => other !== undefined).map((line) => wrongWords(line, name));
+    return { found: [], damage: [...damage, sentence('left out', { where: whereOf(name, lines) })], words: [] };
 }
 
 /**
@@ -226,32 +270,43 @@ function wrongWords(wrong, name) {
  * @returns {{ keys: { bytes: Uint8Array, from: string, label: ?number }[], problems: string[] }}
  */
 export function keysOfText(library, text, name = '') {
-    const [keys, damage, words] = [[], [], []];
+    const [found, damage, words] = [[], [], []];
     for (const { label, lines } of blocksOf(text)) {
         const read = readBlock(library, lines, name);
-        read.found.forEach(({ line, bytes }) => keys.push({ bytes, from: whereOf(name, [line]), label: line === lines[0] ? label : null }));
+        const isLabelled = read.found.length === 1 && read.found[0].line === lines[0];
+        for (const { line, bytes } of read.found) found.push({ bytes, from: whereOf(name, [line]), label: isLabelled ? label : null });
         for (const said of read.damage) damage.push(said);
         for (const said of read.words) words.push(said);
     }
-    const problems = [...damage, ...words];
-    const where = name === '' ? 'the text' : name;
-    if (keys.length === 0 && problems.length === 0) problems.push(sentence('empty', { where }));
-    if (problems.length > MOST_WRONG + 1) {
-        const count = problems.splice(MOST_WRONG).length;
-        problems.push(sentence('more wrong', { where, count }));
-    }
-    return { keys, problems };
+    // As many bytes as a fingerprint has, for no more than there are players; more are parts of something else.
+    const prints = found.filter(({ bytes }) => bytes.length === PRINT_BYTES);
+    const others = prints.length > MOST_KEYS ? found : found.filter((key) => !prints.includes(key));
+    const printed = prints.length > MOST_KEYS ? [] : prints.map(({ from }) => sentence('fingerprint', { where: from }));
+    return limited(library, others, [...damage, ...printed, ...words], name === '' ? 'the text' : name);
 }
 
-/** The text that these bytes are, in UTF-8 or, with its mark, UTF-16; null where they are none. A binary key never begins as a text does. */
+/** Not more refused keys and sentences of one text than a person reads; how many more there are is said. */
+function limited(library, found, problems, where) {
+    if (found.length === 0 && problems.length === 0) return { keys: [], problems: [sentence('empty', { where })] };
+    const refused = found.filter(({ bytes }) => !isAccepted(library, bytes));
+    const dropped = new Set(refused.slice(refused.length > MOST_WRONG + 1 ? MOST_WRONG : refused.length));
+    const shown = problems.length > MOST_WRONG + 1 ? problems.slice(0, MOST_WRONG) : problems;
+    const count = dropped.size + problems.length - shown.length;
+    return { keys: found.filter((key) => !dropped.has(key)), problems: count === 0 ? shown : [...shown, sentence('more wrong', { where, count })] };
+}
+
+const CONTROL = /[\u0000-\u0008\u000E-\u001F\u007F]/; // eslint-disable-line no-control-regex
+
+/** The text that these bytes are, in UTF-8 or, with its mark, UTF-16, or else a byte to a sign; null where they are none. A binary key never begins as
+    a text does. */
 function textOf(bytes) {
     const wide = bytes[0] === 0xFF && bytes[1] === 0xFE ? 'utf-16le' : bytes[0] === 0xFE && bytes[1] === 0xFF ? 'utf-16be' : null;
     try {
         const text = new TextDecoder(wide ?? 'utf-8', { fatal: true }).decode(bytes);
-        // eslint-disable-next-line no-control-regex
-        return /[\u0000-\u0008\u000E-\u001F\u007F]/.test(text) ? null : text;
+        return CONTROL.test(text) ? null : text;
     } catch {
-        return null;
+        if (wide !== null || bytes.some((byte) => byte < 9 || (byte > 13 && byte < 32) || byte === 127)) return null;
+        return Array.from(bytes, (byte) => String.fromCharCode(byte)).join('');
     }
 }
 

@@ -9,7 +9,7 @@ import { capital, element, make, say, shape } from './elements.mjs';
 import { WORDS } from './words.mjs';
 
 const SENSORS = 72;
-const DEALT_HERE = 'An example: your browser hid this piece and dealt these keys just now.';
+const DEALT_HERE = 'An example: your browser hid this piece and dealt these keys just now, and nobody wrote their fingerprints down.';
 const ALWAYS_THE_SAME = 'An example: a board of six squares for two players, always the same.';
 
 const library = await loadBase64(element('module').textContent).catch((error) => {
@@ -18,7 +18,11 @@ const library = await loadBase64(element('module').textContent).catch((error) =>
 });
 
 // What is here: the keys as they were given, those set aside while an example is shown, what the library says of them, and what is looked at.
-const state = { keys: [], aside: null, problems: [], note: '', found: null, rivals: new Set(), pieces: [], chosen: null, first: 0, members: new Set(), sensors: false, together: null, named: 0 };
+const state = {
+    keys: [], aside: null, problems: [], note: '', named: 0,
+    found: null, rivals: new Set(), pieces: [],
+    chosen: null, first: 0, members: new Set(), sensors: false, together: null,
+};
 
 function counted(number, one, more = `${one}s`) {
     return `${WORDS.numbers[number] ?? number.toLocaleString('en')} ${number === 1 ? one : more}`;
@@ -31,7 +35,8 @@ function refusalWords({ number, name, words }) {
 
 // ---- keys ----
 
-/** Takes keys in beside those that are here, or in their place where they are a whole match by themselves. Keys that a reader gives end an example. */
+/** Takes keys in beside those that are here, or in their place where they are a whole match by themselves. Keys that a reader gives end an
+    example. */
 function addKeys(keys) {
     if (keys.length > 0 && state.aside !== null) leaveExample();
     const isWhole = examine(library, keys).joined !== null;
@@ -87,10 +92,10 @@ function keyLine(key) {
     const fits = (standing === 'used' && !isRival(key)) || standing === 'copy';
     const words = isRival(key) ? sentence('conflict', header) : key.words;
     const whose = header === null || standing === 'other' ? [] : [make('strong', {}, `Player ${header.player}`), ' '];
-    const isWarned = document.body.dataset.looks === 'warning';
+    const isWarned = ['warning', 'zero'].includes(document.body.dataset.looks);
     const [look, sign, heard] = !fits ? ['fails', '\u2717', ' does not fit'] : isWarned ? ['from', '\u2022', ''] : ['fits', '\u2713', ' can be read'];
     return [...whose, make('span', { className: look }, sign, make('span', { className: 'unseen' }, heard)), ' ', make('span', { className: 'from' }, from),
-        ...(standing === 'used' ? [' ', make('span', { className: 'print' }, `${print.slice(0, 4)}\u2026`)] : []),
+        ...(['used', 'conflict'].includes(standing) ? [' ', make('span', { className: 'print' }, `${print.slice(0, 4)}\u2026`)] : []),
         ...(words === null ? [] : [' ', make('span', { className: 'wrong' }, capital(words))])];
 }
 
@@ -98,8 +103,8 @@ function keyItem(key) {
     const { id, header, refusal, bytes, from, fingerprint: print } = key;
     const numbers = [['Fingerprint (SHA-256)', print], ['Length', counted(bytes.length, 'byte')]];
     if (header !== null) {
-        const [players, squares, bytesOfValue] = [WORDS.numbers[header.players], counted(header.positions, 'square'), counted(header.valueBytes, 'byte')];
-        numbers.push(['Board', `${players} players, ${squares}, values of ${bytesOfValue}`], ['Grid', `${header.width} wide`]);
+        const [players, squares] = [WORDS.numbers[header.players], counted(header.positions, 'square')];
+        numbers.push(['Board', `${players} players, ${squares}, values of ${counted(header.valueBytes, 'byte')}`], ['Grid', `${header.width} wide`]);
     }
     return make('li', { className: isRival(key) ? 'conflict' : key.state }, make('details', { aria: { 'data-key': id } },
         make('summary', {}, ...keyLine(key)),
@@ -117,7 +122,9 @@ function showKeys() {
     const open = new Set([...document.querySelectorAll('#keys details[open]')].map(({ dataset }) => dataset.key));
     const { keys, players } = state.found;
     const others = keys.filter((key) => !players.includes(key));
-    const items = [...players.map((key, player) => (key === null ? missingItem(player) : keyItem(key))), ...others.map(keyItem)];
+    const rivalsOf = (player) => others.filter((key) => key.state === 'conflict' && key.header.player === player);
+    const items = [...players.flatMap((key, player) => [key === null ? missingItem(player) : keyItem(key), ...rivalsOf(player).map(keyItem)]),
+        ...others.filter((key) => key.state !== 'conflict').map(keyItem)];
     element('keys').replaceChildren(...items);
     for (const details of document.querySelectorAll('#keys details')) details.open = open.has(details.dataset.key);
 }
@@ -218,7 +225,8 @@ function verdict() {
     }
     const rival = keys.find((key) => key.state === 'conflict');
     if (rival !== undefined) {
-        return { looks: 'warning', words: `${capital(rival.words)}.`, beside: 'Remove the one that does not belong to the match.', refusal };
+        const beside = 'Compare their fingerprints, and remove the one that does not belong to the match.';
+        return { looks: 'warning', words: `${capital(rival.words)}.`, beside, refusal };
     }
     const unfit = keys.find((key) => ['refused', 'other'].includes(key.state));
     const wrong = unfit === undefined ? state.problems[0] : `${unfit.from}: ${unfit.words}`;
@@ -282,7 +290,8 @@ function showGroup(board) {
         : `${capital(WORDS.numbers[members.length])} of ${WORDS.numbers[board.players]} players: ${names}. ${left === 0
             ? 'With everybody it is the board above.' : `${capital(WORDS.numbers[left])} ${left === 1 ? 'is' : 'are'} left out, and it looks like noise.`}`);
     element('group').classList.toggle('piece', left === 0 && state.pieces.length === 1);
-    if (members.length > 0) showTable('group', tableOfMembers(members), `What players ${names} see together`, left === 0 && state.found.joined !== null);
+    const isJoined = left === 0 && state.found.joined !== null;
+    if (members.length > 0) showTable('group', tableOfMembers(members), `What players ${names} see together`, isJoined);
 }
 
 /** The members' tables joined, worked out once for these keys. */
@@ -306,7 +315,7 @@ function showShares() {
     say('square-problem', '');
     if (board === null || position === null) {
         say('square-place', '');
-        say('square-words', 'Choose a square on the board, or write its number.');
+        say('square-words', state.found.joined === null ? 'Write a square\u2019s number.' : 'Choose a square on the board, or write its number.');
         element('shares').replaceChildren();
         return;
     }
@@ -327,8 +336,10 @@ function showShares() {
 }
 
 function showFingerprints() {
-    const rows = holders().map(({ player, key }) =>
-        make('tr', {}, make('th', { scope: 'row' }, `Player ${player}`), make('td', {}, key.fingerprint)));
+    const shown = state.found.keys.filter((key) => ['used', 'conflict'].includes(key.state))
+        .sort((one, other) => one.header.player - other.header.player);
+    const name = ({ header, from }) => `Player ${header.player}${state.rivals.has(header.player) ? `, ${from}` : ''}`;
+    const rows = shown.map((key) => make('tr', {}, make('th', { scope: 'row' }, name(key)), make('td', {}, key.fingerprint)));
     element('fingerprints').hidden = rows.length === 0;
     element('fingerprint-table').replaceChildren(make('table', { className: 'plain' },
         make('caption', {}, 'Fingerprints of the keys (SHA-256)'), make('tbody', {}, ...rows)));

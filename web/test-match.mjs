@@ -96,7 +96,7 @@ function filled(template) {
 }
 
 function encoded(text, encoding = 'utf-8') {
-    const bytes = Buffer.from(text, encoding === 'utf-8' ? 'utf8' : 'utf16le');
+    const bytes = Buffer.from(text, { 'utf-8': 'utf8', 'latin-1': 'latin1' }[encoding] ?? 'utf16le');
     return encoding === 'utf-16be' ? bytes.swap16() : bytes;
 }
 

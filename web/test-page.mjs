@@ -257,7 +257,7 @@ onPage('keys that come one after another: what is missing is said, and its numbe
     assert.equal(await isShown(page, '#refusal p'), false);
     assert.equal(await page.text('#refusal p'), refusalWords(12));
     await open(page, 'square-part');
-    assert.equal(await page.text('#square-words'), 'Choose a square on the board, or write its number.');
+    assert.equal(await page.text('#square-words'), 'Write a square\u2019s number.');
     await askSquare(page, '15');
     assert.equal(await page.text('#square-words'), 'Three of six keys. All are needed.');
     const says = (words) => page.until((wanted) => document.getElementById('answer').textContent === wanted, words);
@@ -317,7 +317,9 @@ onPage('any order, copies, another board\u2019s key, two keys of one player', as
     assert.deepEqual(await page.run(() => [...document.querySelectorAll('[data-member]')].map((box) => box.dataset.member)), [...'12345']);
     await askSquare(page, '5');
     assert.equal(await page.text('#square-words'), 'Five of six keys. All are needed.');
-    const rival = '#keys li.conflict:last-child';
+    assert.deepEqual(await page.run(() => [...document.querySelectorAll('#fingerprint-table th')].map((cell) => cell.textContent).slice(0, 3)),
+        ['Player 0, order-0.key', 'Player 0, rival.key', 'Player 1']);
+    const rival = '#keys li.conflict:nth-child(2)';
     await page.click(`${rival} summary`);
     await page.click(`${rival} button`);
     assert.equal(await answer(page), pieceWords(dealing));
@@ -419,7 +421,7 @@ onPage('an example does not throw loaded keys away', async (page) => {
     await open(page, 'intake');
     await page.click('#spring-six');
     assert.equal((await keyLines(page)).length, 6);
-    assert.equal(await page.text('#example-words'), 'An example: your browser hid this piece and dealt these keys just now.');
+    assert.equal(await page.text('#example-words'), 'An example: your browser hid this piece and dealt these keys just now, and nobody wrote their fingerprints down.');
     await open(page, 'intake');
     await page.click('#small');
     assert.equal(await page.text('#example-words'), 'An example: a board of six squares for two players, always the same.');

@@ -12,6 +12,7 @@ export const WORDS = {
     "no digit": "{where}: “{sign}” is no hexadecimal digit",
     "odd digits": "{where}: an odd number of hexadecimal digits ({count}): one is missing, or one is too many",
     "fingerprint": "{where}: this is a fingerprint, not a key",
+    "left out": "{where}: not read, since a line among them cannot be",
     "more wrong": "{where}: {count} more places cannot be read",
     "empty": "{where} is empty",
     "too long": "{where} is too long: no board has so many bytes of keys",
