@@ -9,6 +9,8 @@ import os
 import re
 
 MOST_KEYS = 6
+# The shortest key there is: of two players, one position and one byte. Fewer bytes are not asked about.
+LEAST_KEY_BYTES = 40
 SQUARES_IN_A_LINE = 8
 # Of a text that has nothing to do with keys not every line is named.
 MOST_WRONG = 5
@@ -52,7 +54,7 @@ def long_as_asked(library, key):
 
 
 def is_accepted(library, key):
-    return library.check(key)[1] is None
+    return len(key) >= LEAST_KEY_BYTES and library.check(key)[1] is None
 
 
 def asked_length(library, given):
@@ -64,7 +66,7 @@ def asked_length(library, given):
 def keys_by_headers(library, given):
     """The keys in these bytes by the length that each asks for, and what is left behind the last; none where not two of them are whole."""
     parts, at = [], 0
-    while at < len(given):
+    while len(given) - at >= LEAST_KEY_BYTES:
         asked = asked_length(library, given[at:])
         if asked is None or asked > len(given) - at or not long_as_asked(library, given[at:at + asked]):
             break
@@ -80,9 +82,9 @@ def keys_apart(library, given):
     a key."""
     best, most = [given], 0
     for many in range(1, MOST_KEYS + 1):
-        if len(given) % many != 0:
-            continue
         long = len(given) // many
+        if len(given) % many != 0 or long < LEAST_KEY_BYTES:
+            continue
         parts = [given[place * long:(place + 1) * long] for place in range(many)]
         fitting = sum(1 for part in parts if long_as_asked(library, part))
         if fitting > most:
@@ -242,7 +244,7 @@ def read_line_alone(library, line, name):
 def read_each(library, lines, name):
     """What is in these lines, each by itself."""
     reads = [read_line_alone(library, line, name) for line in lines]
-    return tuple(sum((read[place] for read in reads), []) for place in range(3))
+    return tuple([one for read in reads for one in read[place]] for place in range(3))
 
 
 def read_block(library, lines, name):
@@ -266,10 +268,10 @@ def limited(library, found, problems, where):
     if not found and not problems:
         return [], [sentence("empty", where=where)]
     refused = [key for key in found if not is_accepted(library, key.bytes)]
-    dropped = [id(key) for key in refused[MOST_WRONG:]] if len(refused) > MOST_WRONG + 1 else []
+    dropped = {id(key) for key in refused[MOST_WRONG:]} if len(refused) > MOST_WRONG + 1 else set()
     shown = problems[:MOST_WRONG] if len(problems) > MOST_WRONG + 1 else problems
     count = len(dropped) + len(problems) - len(shown)
-    keys = [key for key in found if id(key) not in set(dropped)] if dropped else found
+    keys = [key for key in found if id(key) not in dropped]
     return keys, shown + ([sentence("more wrong", where=where, count=count)] if count else [])
 
 

@@ -6,6 +6,8 @@ import { Refused } from './nosingginger.mjs';
 import { WORDS } from './words.mjs';
 
 const MOST_KEYS = 6;
+// The shortest key there is: of two players, one position and one byte. Fewer bytes are not asked about.
+const LEAST_KEY_BYTES = 40;
 const MOST_SHARE_BYTES = 16;
 export const SQUARES_IN_A_LINE = 8;
 // Of a text that has nothing to do with keys not every line is named.
@@ -38,7 +40,7 @@ function checked(library, bytes) {
 }
 
 function isAccepted(library, bytes) {
-    return checked(library, bytes).refusal === null;
+    return bytes.length >= LEAST_KEY_BYTES && checked(library, bytes).refusal === null;
 }
 
 export function hexadecimal(bytes) {
@@ -77,7 +79,7 @@ function askedLength(library, bytes) {
 function keysByHeaders(library, bytes) {
     const parts = [];
     let at = 0;
-    while (at < bytes.length) {
+    while (bytes.length - at >= LEAST_KEY_BYTES) {
         const rest = bytes.subarray(at);
         const asked = askedLength(library, rest);
         if (asked === null || asked > rest.length || !longAsAsked(library, rest.subarray(0, asked))) break;
@@ -92,8 +94,8 @@ function keysByHeaders(library, bytes) {
 export function keysApart(library, bytes) {
     let best = { parts: [bytes], fitting: 0 };
     for (let many = 1; many <= MOST_KEYS; many += 1) {
-        if (bytes.length % many !== 0) continue;
         const long = bytes.length / many;
+        if (!Number.isInteger(long) || long < LEAST_KEY_BYTES) continue;
         const parts = Array.from({ length: many }, (_, place) => bytes.subarray(place * long, (place + 1) * long));
         const fitting = parts.filter((part) => longAsAsked(library, part)).length;
         if (fitting > best.fitting) best = { parts, fitting };
