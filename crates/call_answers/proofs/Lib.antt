@@ -2,4 +2,5 @@
 pub mod Answering
 pub mod Putting
 pub mod Sizes
+pub mod Telling
 pub mod AsWritten

@@ -1,9 +1,9 @@
--- What the operations answer and leave behind: document 03's Entry, word for word but for a name, `width-refusal`. Each is an equation that
--- fixes the number, the value and every lent byte, refused calls too. Join keys has its own file; Check key and
+-- What the operations answer and leave behind: document 03's Entry, word for word but for a name, `width-refusal`, and for Deal's place,
+-- which is document 02's, (i). Each is an equation that fixes the number, the value and every lent byte, refused calls too. Join keys has its own file; Check key and
 -- Held seed answer as the crate keys says. Assumes nothing: these are definitions.
 use mathlib.Core.Path.{_≡_}
 use mathlib.Core.Bool.{not, cond}
-use mathlib.Core.List.{List}
+use mathlib.Core.List.{List, [], _∷_}
 use Prim.Native.Nat.{ℕ, zero, suc, _*_}
 use lib.Dec.{ltb, leb, eqb}
 use lib.ListN.{length, take, drop}
@@ -13,8 +13,10 @@ use Rattle.chacha20.specs.Expand.{expand}
 use Rattle.seed_rows.specs.Rows.{rule}
 use Rattle.grid.specs.Grid.{board, board-refusal, players-fit, positions-fit, value-fits}
 use Rattle.grid.specs.Width.{width, sensor-position}
-use Rattle.keys.specs.Keys.{or-else, lent, deal-refusal, keys-from, key-long, key-refusal, head-in, opened, table}
+use Rattle.keys.specs.Keys.{or-else, lent, deal-refusal, deal-place, keys-from, key-long, key-refusal, head-in, opened, table}
 use Rattle.call_answers.specs.declared.Answer.{Answer}
+use Rattle.call_answers.specs.declared.DealAnswer.{DealAnswer}
+use Rattle.grid.specs.declared.fault.Fault.{Fault}
 
 -- "either the full result or the first refusal number that fits, the lent output then unchanged"
 unfoldable pub Put-says : (refusal : ℕ) → (bytes : List ℕ) → (r : ℕ) → (out out-now : List ℕ) → Type 0
@@ -25,12 +27,30 @@ Put-says (suc n) bs r o z = (r ≡ suc n) × (z ≡ o)
 unfoldable pub says : (refusal value : ℕ) → Answer → Type 0
 says n v r = (r .refusal ≡ n) × (r .value ≡ cond (eqb n 0) v 0)
 
--- DEAL: 1 to 8, 9; p keys one after another, player 0 first
+-- DEAL: 1 to 7, 18 to 20, 9; p keys one after another, player 0 first
 unfoldable pub Deal-says : (p n m w point : ℕ) → (value arrays seeds words : List ℕ) → (r : ℕ) → (out out-now : List ℕ) → Type 0
 Deal-says p n m w a v cs ss ws r o z =
     Put-says
     (or-else (deal-refusal (board p n m w) (lent a v cs ss ws)) (cond (ltb (length o) (p * key-long (board p n m w))) 9 0))
     (keys-from p 0 (board p n m w) (λ seed. rule (board p n m w) seed) (lent a v cs ss ws)) r o z
+
+-- each case of Deal's answer: the number, and the grid row and the column of its place, where it has one
+pub record Told : Type 0 where
+  pub number : ℕ
+  pub place : List ℕ
+
+unfoldable pub told : DealAnswer → Told
+told (DealAnswer.Number n) = record { number = n; place = [] }
+told (DealAnswer.Fault f) = record { number = f .number; place = f .«grid_row» ∷ f .column ∷ [] }
+
+-- no two answers tell the same, so that what is told fixes the answer
+unfoldable pub Told-once : Type 0
+Told-once = (x y : DealAnswer) → told x ≡ told y → x ≡ y
+
+-- DEAL, with its place: "each comes with the grid row and column of the first fault", and no other number does
+unfoldable pub Deal-tells : (p n m w point : ℕ) → (value arrays seeds words : List ℕ) → Told → (out out-now : List ℕ) → Type 0
+Deal-tells p n m w a v cs ss ws r o z =
+    (r .place ≡ deal-place (board p n m w) (lent a v cs ss ws)) × Deal-says p n m w a v cs ss ws (r .number) o z
 
 -- KEY LENGTH: 1 to 5
 unfoldable pub Long-says : (p n m w : ℕ) → Answer → Type 0

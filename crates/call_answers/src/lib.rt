@@ -1,9 +1,11 @@
-// What the operations answer: the refusal numbers by name, and a number with a value. The contracts of all operations but Join keys stand in
-// specs/Answers.antt. Assumes nothing.
+// What the operations answer: the refusal numbers by name, a number with a value, and what Deal answers. The contracts of all operations but
+// Join keys stand in specs/Answers.antt. Assumes nothing.
 ghost use mathlib.Core.Path.{_≡_};
+ghost use Rattle.call_answers.specs.Answers.{told};
 
 pub mod refusals;
 
+pub use grid::fault::Fault;
 use refusals::ACCEPTED;
 
 // A number and a value: the number of a refusal with 0, or 0 with the value asked.
@@ -29,5 +31,21 @@ pub fn accepted(value: u32) -> Answer
     Answer {
         refusal: ACCEPTED,
         value,
+    }
+}
+
+// What Deal answers: 0, or the number of a refusal that has no place; or what is wrong with the arrays first, and where.
+pub enum DealAnswer {
+    Number(u32),
+    Fault(Fault),
+}
+
+// Its number alone.
+pub fn deal_number(answer: DealAnswer) -> u32
+    ensures { λ r. ⌜ r ≡ told answer .number ⌝ }
+{
+    match answer {
+        DealAnswer::Number(number) => number,
+        DealAnswer::Fault(fault) => fault.number,
     }
 }

@@ -1,4 +1,5 @@
-// The refusal numbers of document 01 by name, in one place. The numbers of a board stand with boards, those of a key with keys.
+// The refusal numbers of documents 01 and 02 by name, in one place. The numbers of a board and of its arrays stand with boards, those of a key
+// with keys.
 // Assumes nothing.
 pub use grid::board::ACCEPTED;
 pub use grid::board::REFUSED_GRID_ROWS;
@@ -6,6 +7,9 @@ pub use grid::board::REFUSED_PLAYERS;
 pub use grid::board::REFUSED_POSITIONS;
 pub use grid::board::REFUSED_VALUE_BYTES;
 pub use grid::board::REFUSED_WIDTH;
+pub use grid::fault::REFUSED_COLUMN_BIT;
+pub use grid::fault::REFUSED_COLUMN_PARITY;
+pub use grid::fault::REFUSED_COLUMN_TWICE;
 pub use key_check::check::REFUSED_LENGTH;
 pub use key_check::check::REFUSED_MARKS;
 pub use key_header::REFUSED_NUMBER;
@@ -16,9 +20,6 @@ pub const REFUSED_POINT: u32 = 6;
 
 // A lent input has another length.
 pub const REFUSED_LENT: u32 = 7;
-
-// An array has a bit at p or above, the wrong parity for its grid row, or a column twice.
-pub const REFUSED_ARRAYS: u32 = 8;
 
 // The output is too short.
 pub const REFUSED_ROOM: u32 = 9;

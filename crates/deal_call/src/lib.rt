@@ -1,17 +1,18 @@
-// Dealing: the refusals 1 to 9 in their order, and the keys of all players. Nothing is written before all is asked. Assumes nothing.
+// Dealing: the refusals 1 to 7, 18 to 20 with their place, and 9, in this order, and the keys of all players. Nothing is written before all is
+// asked. Assumes nothing.
+use call_answers::DealAnswer;
 use call_answers::refusals::ACCEPTED;
-use call_answers::refusals::REFUSED_ARRAYS;
 use call_answers::refusals::REFUSED_LENT;
 use call_answers::refusals::REFUSED_POINT;
 use call_answers::refusals::REFUSED_ROOM;
 use grid::board::Board;
-use grid_arrays::arrays_good;
+use grid_arrays::first_fault;
 use key_lengths::key_length;
 ghost use mathlib.Core.Path.{_≡_};
 ghost use Rattle.grid.specs.Grid.{board-refusal};
 ghost use Rattle.grid.specs.Code.{board-of};
-ghost use Rattle.keys.specs.Keys.{deal-refusal, lent, lent-fits};
-ghost use Rattle.call_answers.specs.Answers.{Deal-says};
+ghost use Rattle.keys.specs.Keys.{sizes-refusal, lent, lent-fits};
+ghost use Rattle.call_answers.specs.Answers.{told, Deal-tells};
 
 // Whether value, arrays, seeds and words have the lengths that the board asks.
 fn lent_fits(board: Board, value: usize, arrays: usize, seeds: usize, words: usize) -> bool
@@ -30,8 +31,8 @@ fn lent_fits(board: Board, value: usize, arrays: usize, seeds: usize, words: usi
     words == board.words_length()
 }
 
-// 1 to 8: the first that fits, or 0.
-fn deal_refusal(
+// 1 to 7: the first that fits, or 0.
+fn sizes_refusal(
     board: Board,
     point: u32,
     value: &[u8],
@@ -39,7 +40,7 @@ fn deal_refusal(
     seeds: &[u8],
     words: &[u8],
 ) -> u32
-    ensures { λ r. ⌜ r ≡ deal-refusal (board-of board) (lent point (now (value .entry)) (now (arrays .entry)) (now (seeds .entry)) (now (words .entry))) ⌝ }
+    ensures { λ r. ⌜ r ≡ sizes-refusal (board-of board) (lent point (now (value .entry)) (now (arrays .entry)) (now (seeds .entry)) (now (words .entry))) ⌝ }
 {
     let refusal = board.refusal();
     if refusal != ACCEPTED {
@@ -51,13 +52,10 @@ fn deal_refusal(
     if !lent_fits(board, value.len(), arrays.len(), seeds.len(), words.len()) {
         return REFUSED_LENT;
     }
-    if !arrays_good(board, point, arrays) {
-        return REFUSED_ARRAYS;
-    }
     ACCEPTED
 }
 
-// DEAL: 1 to 9 in their order; writes the keys of all players one after another, player 0 first, and nothing before all is asked.
+// DEAL: 1 to 7, 18 to 20, 9 in their order; writes the keys of all players one after another, player 0 first, and nothing before all is asked.
 pub fn deal(
     players: u32,
     positions: u32,
@@ -69,8 +67,8 @@ pub fn deal(
     seeds: &[u8],
     words: &[u8],
     keys: &mut [u8],
-) -> u32
-    ensures { λ r. ⌜ Deal-says players positions width «value_bytes» point (now (value .entry)) (now (arrays .entry)) (now (seeds .entry)) (now (words .entry)) r (now (keys .entry)) (now (keys .exit)) ⌝ }
+) -> DealAnswer
+    ensures { λ r. ⌜ Deal-tells players positions width «value_bytes» point (now (value .entry)) (now (arrays .entry)) (now (seeds .entry)) (now (words .entry)) (told r) (now (keys .entry)) (now (keys .exit)) ⌝ }
 {
     let board = Board {
         players,
@@ -78,13 +76,17 @@ pub fn deal(
         width,
         value_bytes,
     };
-    let refusal = deal_refusal(board, point, value, arrays, seeds, words);
+    let refusal = sizes_refusal(board, point, value, arrays, seeds, words);
     if refusal != ACCEPTED {
-        return refusal;
+        return DealAnswer::Number(refusal);
+    }
+    let fault = first_fault(board, point, arrays);
+    if fault.number != ACCEPTED {
+        return DealAnswer::Fault(fault);
     }
     if keys.len() < players as usize * key_length(board) {
-        return REFUSED_ROOM;
+        return DealAnswer::Number(REFUSED_ROOM);
     }
     deal_keys::deal_keys(board, point, value, arrays, seeds, words, keys);
-    ACCEPTED
+    DealAnswer::Number(ACCEPTED)
 }

@@ -25,7 +25,7 @@ use Rattle.deal_last_word.specs.LastWord.{dealt-word}
 use Rattle.seed_rows.specs.Rows.{rule}
 use Rattle.deal_last_word.proofs.LastWord.{dealt-word-long}
 use Rattle.deal_keys.specs.Dealt.{key-front, dealt-keys}
-use Rattle.deal_keys.proofs.Lending.{Lent-fits}
+use Rattle.keys.proofs.Lending.{Lent-fits}
 
 -- LENGTHS
 
@@ -150,7 +150,7 @@ module _ (b : Board) (l : Lent) (facts : Lent-fits b l) where
 
   pub word-long : length word ≡ row-long b
   word-long =
-      dealt-word-long b (board-in b (facts .accepted)) (l .point) (l .value) (l .seeds) (l .words) (facts .point) (facts .value) (omega (arith, facts .words))
+      dealt-word-long b (board-in b (facts .sizes .accepted)) (l .point) (l .value) (l .seeds) (l .words) (facts .sizes .point) (facts .sizes .value) (omega (arith, facts .sizes .words))
 
   -- a key is its front and the last word
   pub key-is : (i : ℕ) → one-key i ≡ front i ++ word
@@ -158,7 +158,7 @@ module _ (b : Board) (l : Lent) (facts : Lent-fits b l) where
   key-is i =
       let rows = header b i ++ body-from (grid-rows b) b i (l .arrays) (l .seeds) in
       let lent-words = words-from (columns b - 1) (row-long b) (l .words) in
-      let whole : glued lent-words ≡ l .words = glue-words (columns b - 1) (row-long b) (l .words) ∙ take-all ((columns b - 1) * row-long b) (l .words) (omega (arith, facts .words)) in
+      let whole : glued lent-words ≡ l .words = glue-words (columns b - 1) (row-long b) (l .words) ∙ take-all ((columns b - 1) * row-long b) (l .words) (omega (arith, facts .sizes .words)) in
       ap (λ (r : List ℕ). rows ++ r) (glued-snoc lent-words word ∙ ap (λ (r : List ℕ). r ++ word) whole) ∙ sym (append-assoc rows (l .words) word)
 
   -- a front and the last word, by the length of a grid row
@@ -168,15 +168,15 @@ module _ (b : Board) (l : Lent) (facts : Lent-fits b l) where
   front-is i n h rows-long =
       let head = header b i in
       let rows = body-from (grid-rows b) b i (l .arrays) (l .seeds) in
-      rw (length-append (head ++ rows) (l .words), length-append head rows, header-long b i (omega arith), rows-long, facts .words)
+      rw (length-append (head ++ rows) (l .words), length-append head rows, header-long b i (omega arith), rows-long, facts .sizes .words)
       (omega (arith, one-more-row (columns b) (row-long b) (columns-pos b)))
 
   pub front-long : (i : ℕ) → i < b .p → length (front i) + row-long b ≡ key-long b
   unfolding key-long stride
   front-long i h =
-      let f = board-in b (facts .accepted) in
+      let f = board-in b (facts .sizes .accepted) in
       front-is i (stride b) (omega (arith, f .players-most))
-      (body-long b i (l .point) (l .arrays) (l .seeds) f h (facts .parities) (omega (arith, facts .arrays)) (omega (arith, facts .seeds)))
+      (body-long b i (l .point) (l .arrays) (l .seeds) f h (facts .parities) (omega (arith, facts .sizes .arrays)) (omega (arith, facts .sizes .seeds)))
 
   -- a key for nobody has no seeds: no front is longer than a player's
   front-most : (i : ℕ) → i < 8 → length (front i) + row-long b ≤ key-long b
@@ -188,7 +188,7 @@ module _ (b : Board) (l : Lent) (facts : Lent-fits b l) where
       split false e =
           let none : Has-marks b i 0 = (λ o array long fits. nobody-marks b o i array (ltb-false i (b .p) e) fits) in
           let bare = body-marked (grid-rows b) 0 0 b i (l .point) (l .arrays) (l .seeds) none
-          (facts .parities) (omega (arith, facts .arrays)) (omega (arith, facts .seeds)) in
+          (facts .parities) (omega (arith, facts .sizes .arrays)) (omega (arith, facts .sizes .seeds)) in
           let same : grid-rows b ≤ grid-rows b = omega arith in
           let fewer : mark-bytes b + 32 * 0 ≤ mark-bytes b + 16 * columns b = omega arith in
           omega (arith, front-is i (mark-bytes b + 32 * 0) h bare, mul-le-mul same fewer)
@@ -213,7 +213,7 @@ module _ (b : Board) (l : Lent) (facts : Lent-fits b l) where
   -- WRITING THEM
 
   least : 2 ≤ b .p
-  least = board-in b (facts .accepted) .players-least
+  least = board-in b (facts .sizes .accepted) .players-least
 
   -- there is room for the first key
   one-key-room : (n : ℕ) → b .p * key-long b ≤ n → key-long b ≤ n

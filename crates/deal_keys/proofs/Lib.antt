@@ -1,3 +1,2 @@
 -- The laws of dealing. Assumes nothing.
-pub mod Lending
 pub mod KeyBytes

@@ -3,6 +3,7 @@ pub mod Cells
 pub mod Columns
 pub mod Counting
 pub mod Facts
+pub mod Faults
 pub mod Hiding
 pub mod Holding
 pub mod Joining

@@ -1,5 +1,6 @@
 pub mod Arrays
 pub mod Code
+pub mod Faults
 pub mod Grid
 pub mod Hiding
 pub mod Joining

@@ -133,10 +133,14 @@ module _ (b : Board) (o : Bool) where
       go false e ih =
           missed (column-good (b .p) o c) (member c seen) (member c cs) (array-good b o cs) (none-seen seen cs) (sym (h c) ∙ e)
 
+  -- a column fits where it passes the two tests
+  pub fits-is : (d : ℕ) → bit (fitting b o) d ≡ column-good (b .p) o d
+  unfolding fitting
+  fits-is d = bit-that (2 ^ b .p) 0 d (λ c. same-parity (is-odd c) o) ∙ rw (zero-add d)
+
   free-at-first : Free-after [] (fitting b o)
-  unfolding fitting member
-  free-at-first d =
-      bit-that (2 ^ b .p) 0 d (λ c. same-parity (is-odd c) o) ∙ rw (zero-add d) (sym (and-true (column-good (b .p) o d)))
+  unfolding member
+  free-at-first d = fits-is d ∙ sym (and-true (column-good (b .p) o d))
 
   -- and a whole array passes where it is good
   pub good-at-once : (xs : List ℕ) → all-free (fitting b o) xs ≡ array-good b o xs

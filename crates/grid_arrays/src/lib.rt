@@ -1,13 +1,20 @@
-// The check of a dealing's arrays (number 8): no column with a bit at p or above, none of the wrong parity, none twice.
-// An array of J such columns holds every column of its parity exactly once.
+// The check of a dealing's arrays, and their first fault: a column with a bit at p or above (18), of the wrong parity (19), or that stood
+// earlier in its array (20). An array of J columns without a fault holds every column of its parity exactly once. Good arrays are passed in one pass
+// without a branch at each column; where they are not good, the place is looked for column by column.
 ghost use mathlib.Core.Path.{_≡_};
 ghost use Prim.Native.Nat.{_*_, _%_, _^_};
 ghost use lib.ListN.{length};
-ghost use Rattle.grid.specs.Grid.{board-refusal, columns, grid-rows, bit, array-good, arrays-good, arrays-long};
+ghost use Rattle.grid.specs.Grid.{board-refusal, columns, grid-rows, bit, member, array-good, arrays-good, arrays-long};
 ghost use Rattle.grid.specs.Moving.{turned};
 ghost use Rattle.grid_arrays.specs.Checking.{fitting};
 ghost use Rattle.grid.specs.Code.{board-of};
+ghost use Rattle.grid.specs.Faults.{column-fault, no-fault, arrays-fault};
+use grid::board::ACCEPTED;
 use grid::board::Board;
+use grid::fault::Fault;
+use grid::fault::REFUSED_COLUMN_BIT;
+use grid::fault::REFUSED_COLUMN_PARITY;
+use grid::fault::REFUSED_COLUMN_TWICE;
 
 // Columns are below 64, so the bits of one number can say which: bit c is set where column c is among them. Here, those of odd parity.
 const ODD: u64 = 0x6996966996696996;
@@ -67,7 +74,7 @@ fn array_good(board: Board, odd: bool, array: &[u8]) -> bool
 }
 
 // Whether the arrays of all grid rows are as they must be: an odd one in the point's grid row, even ones in the others.
-pub fn arrays_good(board: Board, point: u32, arrays: &[u8]) -> bool
+fn arrays_good(board: Board, point: u32, arrays: &[u8]) -> bool
     requires { ⌜ (board-refusal (board-of board) ≡ 0) × (length (now arrays) ≡ arrays-long (board-of board)) ⌝ }
     ensures { λ r. ⌜ r ≡ arrays-good (grid-rows (board-of board)) 0 (board-of board) point (now (arrays .entry)) ⌝ }
 {
@@ -84,4 +91,91 @@ pub fn arrays_good(board: Board, point: u32, arrays: &[u8]) -> bool
         grid_row += 1;
     }
     true
+}
+
+// Whether a column is among some.
+fn is_among(columns: &[u8], column: u8) -> bool
+    ensures { λ r. ⌜ r ≡ member column (now (columns .entry)) ⌝ }
+{
+    let mut place: usize = 0;
+    while place < columns.len() {
+        if columns[place] == column {
+            return true;
+        }
+        place += 1;
+    }
+    false
+}
+
+// What is wrong with a column that stands behind some others in its array: 18, 19, 20, the first that fits, or 0.
+fn column_fault(board: Board, odd: bool, before: &[u8], column: u8) -> u32
+    requires { ⌜ board-refusal (board-of board) ≡ 0 ⌝ }
+    ensures { λ r. ⌜ r ≡ column-fault (board-of board) odd (now (before .entry)) column ⌝ }
+{
+    let limit: u32 = 1 << board.players;
+    let beyond = limit <= column as u32;
+    let fits = is_free(fitting(board, odd), column);
+    let stood = is_among(before, column);
+    if beyond {
+        return REFUSED_COLUMN_BIT;
+    }
+    if !fits {
+        return REFUSED_COLUMN_PARITY;
+    }
+    if stood {
+        return REFUSED_COLUMN_TWICE;
+    }
+    ACCEPTED
+}
+
+// No fault.
+fn none() -> Fault
+    ensures { λ r. ⌜ r ≡ no-fault ⌝ }
+{
+    Fault {
+        number: ACCEPTED,
+        grid_row: 0,
+        column: 0,
+    }
+}
+
+// The first place with a fault, grid row by grid row and column by column.
+fn find_fault(board: Board, point: u32, arrays: &[u8]) -> Fault
+    requires { ⌜ (board-refusal (board-of board) ≡ 0) × (length (now arrays) ≡ arrays-long (board-of board)) ⌝ }
+    ensures { λ r. ⌜ r ≡ arrays-fault (board-of board) point (now (arrays .entry)) ⌝ }
+{
+    let columns = board.columns();
+    let point_grid_row = (point / board.width) as usize;
+    let mut place: usize = 0;
+    while place < arrays.len() {
+        let grid_row = place / columns;
+        let column = place % columns;
+        let start = place - column;
+        let number = column_fault(
+            board,
+            grid_row == point_grid_row,
+            &arrays[start..place],
+            arrays[place],
+        );
+        if number != ACCEPTED {
+            return Fault {
+                number,
+                grid_row: grid_row as u32,
+                column: column as u32,
+            };
+        }
+        place += 1;
+    }
+    none()
+}
+
+// THE FIRST FAULT of the arrays of all grid rows, or none.
+pub fn first_fault(board: Board, point: u32, arrays: &[u8]) -> Fault
+    requires { ⌜ (board-refusal (board-of board) ≡ 0) × (length (now arrays) ≡ arrays-long (board-of board)) ⌝ }
+    ensures { λ r. ⌜ r ≡ arrays-fault (board-of board) point (now (arrays .entry)) ⌝ }
+{
+    if arrays_good(board, point, arrays) {
+        return none();
+    }
+    find_fault(board, point, arrays)
 }

@@ -22,7 +22,8 @@ use Rattle.keys.specs.Keys.{packed-marks, grid-rows-written, key-written
 use Rattle.keys.specs.Promise.{Rule-good, lent-good, dealt-parts}
 use Rattle.keys.proofs.Lists.{length-words, take-words, drop-words, each-cons, each-words, each-head, each-tail}
 use Rattle.keys.proofs.Marks.{marks-set, packed-is, take-marks, drop-marks, length-marks-of}
-use Rattle.keys.proofs.Accepted.{passed, refusing, last-passed, Parts-good}
+use Rattle.keys.proofs.Accepted.{Parts-good}
+use Rattle.keys.proofs.Lending.{accepted-fits}
 use Rattle.keys.proofs.Opening.{row-word-of}
 
 -- WHAT DEAL ACCEPTS
@@ -37,31 +38,21 @@ pub record Lent-in (b : Board) (l : Lent) : Type 0 where
   pub words : Word ((columns b - 1) * row-long b) (l .words)
 
 pub lent-in : (b : Board) (l : Lent) → lent-good b l ≡ true → Lent-in b l
-unfolding lent-good deal-refusal
+unfolding lent-good
 lent-in b l h =
-    let cells = grid-rows b * columns b in
-    let long-value = eqb (length (l .value)) (b .w) in
-    let long-arrays = eqb (length (l .arrays)) cells in
-    let long-seeds = eqb (length (l .seeds)) (32 * cells) in
-    let long-words = eqb (length (l .words)) ((columns b - 1) * row-long b) in
     let good = bytes-good (l .value) && bytes-good (l .seeds) in
     let bytes = and-right (eqb (deal-refusal b l) 0) (good && bytes-good (l .words)) h in
     let two = and-left good (bytes-good (l .words)) bytes in
-    let refusal = eqb-true (deal-refusal b l) 0 (and-left (eqb (deal-refusal b l) 0) (good && bytes-good (l .words)) h) in
-    let board-passed = passed (not (eqb (board-refusal b) 0)) (board-refusal b) _ (refusing (board-refusal b)) refusal in
-    let point-passed = passed (leb (b .n) (l .point)) 6 _ (λ t n. omega arith) (board-passed .1) in
-    let long-passed = passed (not ((long-value && long-arrays) && (long-seeds && long-words))) 7 _ (λ t n. omega arith) (point-passed .1) in
-    let long = not-false ((long-value && long-arrays) && (long-seeds && long-words)) (long-passed .0) in
-    let first = and-left (long-value && long-arrays) (long-seeds && long-words) long in
-    let second = and-right (long-value && long-arrays) (long-seeds && long-words) long in
+    let fits = accepted-fits b l (eqb-true (deal-refusal b l) 0 (and-left (eqb (deal-refusal b l) 0) (good && bytes-good (l .words)) h)) in
+    let sizes = fits .sizes in
     record {
-      board = board-in b (eqb-true (board-refusal b) 0 (not-false (eqb (board-refusal b) 0) (board-passed .0)));
-      point = leb-false (b .n) (l .point) (point-passed .0);
-      value = record { long = eqb-true (length (l .value)) (b .w) (and-left long-value long-arrays first); good = and-left (bytes-good (l .value)) (bytes-good (l .seeds)) two };
-      arrays-long = eqb-true (length (l .arrays)) cells (and-right long-value long-arrays first);
-      arrays = last-passed (arrays-good (grid-rows b) 0 b (l .point) (l .arrays)) 8 (omega arith) (long-passed .1);
-      seeds = record { long = eqb-true (length (l .seeds)) (32 * cells) (and-left long-seeds long-words second); good = and-right (bytes-good (l .value)) (bytes-good (l .seeds)) two };
-      words = record { long = eqb-true (length (l .words)) ((columns b - 1) * row-long b) (and-right long-seeds long-words second); good = and-right good (bytes-good (l .words)) bytes };
+      board = board-in b (sizes .accepted);
+      point = sizes .point;
+      value = record { long = sizes .value; good = and-left (bytes-good (l .value)) (bytes-good (l .seeds)) two };
+      arrays-long = sizes .arrays;
+      arrays = fits .parities;
+      seeds = record { long = sizes .seeds; good = and-right (bytes-good (l .value)) (bytes-good (l .seeds)) two };
+      words = record { long = sizes .words; good = and-right good (bytes-good (l .words)) bytes };
     }
 
 -- ROWS under a rule

@@ -8,6 +8,7 @@ pub mod Counting
 pub mod Parts
 pub mod Accepted
 pub mod Opening
+pub mod Lending
 pub mod Dealing
 pub mod Promise
 pub mod Document03

@@ -1,5 +1,5 @@
 -- Document 03's own text, word for word, of what Keys.antt and Promise.antt say otherwise: opening, which read the words from the whole
--- body, the refusals, which did not share their parts, and `Rule-good`, which asked good rows of every list. `Same-opening` says that this opening is `opened` of Keys.antt at every square;
+-- body, the refusals, which did not share their parts and had 8 for every fault of an array, and `Rule-good`, which asked good rows of every list. `Same-opening` says that this opening is `opened` of Keys.antt at every square;
 -- then come document 03's statements under its own names. Assumes nothing: these are definitions and statements.
 use mathlib.Core.Path.{_≡_}
 use mathlib.Core.Bool.{true, _&&_, not, cond}
@@ -62,10 +62,14 @@ key-refusal bs =
     (cond (not (eqb (length bs) (length (header b (h .player)) + grid-rows b * stride b + columns b * row-long b))) 12
     (cond (marks-good (grid-rows b) b (h .rest)) 0 13))))
 
+-- 8 is given no more: 18, 19 and 20 of document 02, (i), "all take the place of 8"
+unfoldable pub eight-again : (number : ℕ) → ℕ
+eight-again n = cond (leb 18 n) 8 n
+
 -- THE REFUSALS ARE THESE, of every board, every dealing and every list of numbers
 pub record Same-refusals : Type 0 where
   pub board : (b : Board) → board-refusal b ≡ Grid.board-refusal b
-  pub deal : (b : Board) (l : Lent) → deal-refusal b l ≡ Keys.deal-refusal b l
+  pub deal : (b : Board) (l : Lent) → deal-refusal b l ≡ eight-again (Keys.deal-refusal b l)
   pub key : (bs : List ℕ) → key-refusal bs ≡ Keys.key-refusal bs
 
 -- rules that give each seed a row's bytes

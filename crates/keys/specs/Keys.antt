@@ -10,7 +10,9 @@ use Prim.Native.Nat.{ℕ, zero, suc, _+_, _*_, _-_, _/_, _%_, _^_}
 use lib.Dec.{ltb, leb, eqb}
 use lib.ListN.{length, getD, take, drop}
 use Rattle.xor.specs.Xor.{xors, zeros}
-use Rattle.grid.specs.Grid.{Board, board, columns, grid-rows, row-long, board-refusal, arrays-long, seeds-long, words-long, Dealing, arrays-good, all-words, bit, cell}
+use Rattle.grid.specs.Grid.{Board, board, columns, grid-rows, row-long, board-refusal, arrays-long, seeds-long, words-long, Dealing, all-words, bit, cell}
+use Rattle.grid.specs.Faults.{arrays-fault}
+use Rattle.grid.specs.declared.fault.Fault.{Fault}
 
 -- NUMBERS AND HEADERS
 
@@ -206,13 +208,24 @@ abbrev pub lent-fits : Board → (value arrays seeds words : ℕ) → Bool
 lent-fits b v cs ss ws =
     (eqb v (b .w) && eqb cs (arrays-long b)) && (eqb ss (seeds-long b) && eqb ws (words-long b))
 
--- "1 to 5; 6 point ≥ N; 7 a lent input of another length; 8 an array" that is neither even nor odd as it should be
-unfoldable pub deal-refusal : Board → Lent → ℕ
-deal-refusal b l =
+-- "1 to 5; 6 point ≥ N; 7 a lent input of another length"
+unfoldable pub sizes-refusal : Board → Lent → ℕ
+sizes-refusal b l =
     cond (not (eqb (board-refusal b) 0)) (board-refusal b)
     (cond (leb (b .n) (l .point)) 6
-    (cond (not (lent-fits b (length (l .value)) (length (l .arrays)) (length (l .seeds)) (length (l .words)))) 7
-    (cond (arrays-good (grid-rows b) 0 b (l .point) (l .arrays)) 0 8)))
+    (cond (not (lent-fits b (length (l .value)) (length (l .arrays)) (length (l .seeds)) (length (l .words)))) 7 0))
+
+-- what is wrong with the lent arrays first, and where: document 02, (i)
+abbrev pub lent-fault : Board → Lent → Fault
+lent-fault b l = arrays-fault b (l .point) (l .arrays)
+
+-- then 18, 19, 20, which "all take the place of 8"
+unfoldable pub deal-refusal : Board → Lent → ℕ
+deal-refusal b l = or-else (sizes-refusal b l) (lent-fault b l .number)
+
+-- "each comes with the grid row and column of the first fault"; no other number has a place
+unfoldable pub deal-place : Board → Lent → List ℕ
+deal-place b l = cond (leb 18 (deal-refusal b l)) (lent-fault b l .«grid_row» ∷ lent-fault b l .column ∷ []) []
 
 -- WHAT CHECK KEY REFUSES
 

@@ -7,7 +7,10 @@ ghost use Rattle.call_answers.specs.Answers.{Long-says, Expand-says, Width-says
 pub mod refusals;
 
 pub use call_answers::Answer;
+pub use call_answers::DealAnswer;
+pub use call_answers::Fault;
 use call_answers::accepted;
+pub use call_answers::deal_number;
 use call_answers::refusals::ACCEPTED;
 use call_answers::refusals::REFUSED_EXPANSION;
 use call_answers::refusals::REFUSED_LENT;

@@ -1,6 +1,8 @@
-// The refusal numbers of document 01 by name, as the crate call_answers has them. Assumes nothing.
+// The refusal numbers of documents 01 and 02 by name, as the crate call_answers has them. Assumes nothing.
 pub use call_answers::refusals::ACCEPTED;
-pub use call_answers::refusals::REFUSED_ARRAYS;
+pub use call_answers::refusals::REFUSED_COLUMN_BIT;
+pub use call_answers::refusals::REFUSED_COLUMN_PARITY;
+pub use call_answers::refusals::REFUSED_COLUMN_TWICE;
 pub use call_answers::refusals::REFUSED_EXPANSION;
 pub use call_answers::refusals::REFUSED_GRID_ROWS;
 pub use call_answers::refusals::REFUSED_LENGTH;

@@ -1,7 +1,7 @@
 -- What a C function leaves behind a pointer, from what the operation under it answers. Assumes nothing.
 use mathlib.Core.Path.{_≡_, refl, subst, subst⁻¹, _∙_}
 use mathlib.Core.Bool.{Bool, true, false, cond}
-use mathlib.Core.List.{List}
+use mathlib.Core.List.{List, [], _∷_}
 use Prim.Native.Nat.{ℕ}
 use borrow.Author.Tests.{ne-eqb}
 use lib.Dec.{eqb}
@@ -15,9 +15,12 @@ use Rattle.key_header.specs.declared.KeyCheck.{KeyCheck}
 use Rattle.key_header.proofs.Reading.{refused-says}
 use Rattle.key_check.specs.Checked.{checked-as}
 use Rattle.key_check.proofs.Checks.{check-tells}
-use Rattle.call_answers.specs.Answers.{says}
+use Rattle.grid.specs.declared.fault.Fault.{Fault}
+use Rattle.call_answers.specs.Answers.{says, told, Deal-tells}
 use Rattle.call_answers.specs.declared.Answer.{Answer}
-use Rattle.nosingginger_c.specs.C.{Through, Value-put, Check-says, Held-says}
+use Rattle.call_answers.specs.declared.DealAnswer.{DealAnswer}
+use Rattle.call_answers.proofs.Telling.{plain-small, placed-large}
+use Rattle.nosingginger_c.specs.C.{Through, Value-put, Deal-places, Check-says, Held-says}
 
 pub value-kept : (n v o : ℕ) → (n ≡ 0 → ⊥) → Value-put n v n o o
 unfolding Value-put
@@ -37,6 +40,22 @@ through n v a r o z s p =
     go : (t : Bool) → a .value ≡ cond t v 0 → z ≡ cond t (a .value) o → (cond t z 0 ≡ cond t v 0) × (z ≡ cond t z o)
     go true e f = (f ∙ e, refl)
     go false e f = (refl, f)
+
+-- what Deal answers, with the place of a fault behind the pointer
+module _ (p n m w a : ℕ) (v cs ss ws o z f : List ℕ) where
+  pub deal-plain : (k : ℕ) (d : DealAnswer) → d ≡ DealAnswer.Number k → Deal-tells p n m w a v cs ss ws (told d) o z
+      → Deal-places p n m w a v cs ss ws k o z f f
+  unfolding Deal-places told
+  deal-plain k d e tells =
+      let plain = subst (λ (x : DealAnswer). Deal-tells p n m w a v cs ss ws (told x) o z) e tells in
+      rw (plain-small p n m w a v cs ss ws o z k plain) (plain, refl)
+
+  pub deal-placed : (g : Fault) (d : DealAnswer) → d ≡ DealAnswer.Fault g → Deal-tells p n m w a v cs ss ws (told d) o z
+      → Deal-places p n m w a v cs ss ws (g .number) o z f (g .«grid_row» ∷ g .column ∷ [])
+  unfolding Deal-places told
+  deal-placed g d e tells =
+      let placed = subst (λ (x : DealAnswer). Deal-tells p n m w a v cs ss ws (told x) o z) e tells in
+      rw (placed-large p n m w a v cs ss ws o z g placed) (placed, refl)
 
 pub check-refused : (ks o : List ℕ) (n : ℕ) → KeyCheck.Refused n ≡ checked-by (key-refusal ks) ks → Check-says ks n o o
 unfolding Check-says checked-as

@@ -4,8 +4,9 @@ use mathlib.Core.Path.{_≡_}
 use mathlib.Core.Bool.{cond}
 use mathlib.Core.List.{List, []}
 use Prim.Native.Nat.{ℕ}
-use lib.Dec.{eqb}
+use lib.Dec.{leb, eqb}
 use Rattle.call_answers.specs.declared.Answer.{Answer}
+use Rattle.call_answers.specs.Answers.{Told, Deal-tells}
 use Rattle.keys.specs.Held.{held-seed-place, Held-at}
 use Rattle.key_check.specs.Checked.{key-checked}
 
@@ -16,6 +17,11 @@ Through A r o z = A (record { refusal = r; value = cond (eqb r 0) z 0 }) × (z �
 -- what is written through the pointer: the value of an accepted answer
 unfoldable pub Value-put : (refusal value : ℕ) → (r old new : ℕ) → Type 0
 Value-put n v r o z = (r ≡ n) × (z ≡ cond (eqb n 0) v o)
+
+-- DEAL: the number returned, and the grid row and the column of its place, where it is 18, 19 or 20, or what stood there
+unfoldable pub Deal-places : (p n m w point : ℕ) → (value arrays seeds words : List ℕ) → (r : ℕ) → (out out-now old new : List ℕ) → Type 0
+Deal-places p n m w a v cs ss ws r o z f g =
+    Deal-tells p n m w a v cs ss ws (record { number = r; place = cond (leb 18 r) g [] }) o z × (g ≡ cond (leb 18 r) g f)
 
 -- CHECK KEY: the number returned, and the header's five numbers, or what stood there
 unfoldable pub Check-says : (key : List ℕ) → (r : ℕ) → (old new : List ℕ) → Type 0

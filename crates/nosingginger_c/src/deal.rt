@@ -1,7 +1,8 @@
 // Deal as a C function. Assumes nothing.
-ghost use Rattle.call_answers.specs.Answers.{Deal-says};
+ghost use Rattle.nosingginger_c.specs.C.{Deal-places};
+use nosingginger::DealAnswer;
 
-// DEAL: the keys of all players one after another.
+// DEAL: the keys of all players one after another; where the arrays are at fault, the grid row and the column of the first fault.
 #[no_mangle]
 pub extern "C" fn nsg_deal(
     players: u32,
@@ -14,10 +15,11 @@ pub extern "C" fn nsg_deal(
     seeds: &[u8],
     words: &[u8],
     keys: &mut [u8],
+    fault: &mut [u32; 2],
 ) -> u32
-    ensures { λ r. ⌜ Deal-says players positions width «value_bytes» point (now (value .entry)) (now (arrays .entry)) (now (seeds .entry)) (now (words .entry)) r (now (keys .entry)) (now (keys .exit)) ⌝ }
+    ensures { λ r. ⌜ Deal-places players positions width «value_bytes» point (now (value .entry)) (now (arrays .entry)) (now (seeds .entry)) (now (words .entry)) r (now (keys .entry)) (now (keys .exit)) (now (fault .entry)) (now (fault .exit)) ⌝ }
 {
-    nosingginger::deal(
+    match nosingginger::deal(
         players,
         positions,
         width,
@@ -28,5 +30,11 @@ pub extern "C" fn nsg_deal(
         seeds,
         words,
         keys,
-    )
+    ) {
+        DealAnswer::Number(number) => number,
+        DealAnswer::Fault(found) => {
+            *fault = [found.grid_row, found.column];
+            found.number
+        }
+    }
 }

@@ -9,15 +9,18 @@ use lib.Dec.{ltb, leb, eqb}
 use lib.ListN.{length, getD, take, drop, length-drop}
 use lib.Seq.{length-take-le, take-all}
 use borrow.Author.Tests.{lt-ltb, le-ltb, le-leb, lt-leb, ltb-true, ltb-false, leb-false, eqb-true, eq-eqb, ne-eqb, not-false}
-use Rattle.grid.specs.Grid.{Board, board, board-refusal, grid-rows, arrays-long, seeds-long, words-long, arrays-good}
-use Rattle.keys.specs.Keys.{number-in, numbers-in, Lent, lent, key-long, deal-refusal, or-else}
+use Rattle.grid.specs.Grid.{Board, board, board-refusal, arrays-long, seeds-long, words-long}
+use Rattle.grid.specs.declared.fault.Fault.{Fault}
+use Rattle.keys.specs.Keys.{number-in, numbers-in, Lent, lent, key-long, sizes-refusal, lent-fault, deal-refusal, or-else}
 use Rattle.key_header.specs.Answers.{five-at}
 use Rattle.key_header.specs.declared.numbers.Five.{Five}
 use Rattle.key_header.proofs.Reading.{five-rest}
 use Rattle.keys.proofs.Accepted.{passed, refusing, first-fits, next-fits, neither}
 use Rattle.keys.proofs.Cut.{numbers-cut}
 use Rattle.keys.proofs.Numbers.{five-good}
-use Rattle.call_answers.specs.Answers.{Put-says, Deal-says}
+use Rattle.call_answers.specs.Answers.{Put-says, Deal-says, Told, told, Deal-tells}
+use Rattle.call_answers.specs.declared.DealAnswer.{DealAnswer}
+use Rattle.call_answers.proofs.Telling.{says-number}
 use Rattle.call_answers.proofs.Putting.{room-there, answer-is, put, untouched}
 use Rattle.text.specs.Text.{refused-line}
 use Rattle.text.proofs.Laws.{refused-most}
@@ -162,35 +165,30 @@ cut b a seeds words xs s w =
     let held : words - seeds ≡ seeds-long b = omega arith in
     rw (arrays, held, all-behind words xs, w, s)
 
-pub deal-cut : (b : Board) (a seeds words : ℕ) (xs : List ℕ) (r : ℕ) (o z : List ℕ) → seeds ≡ b .w + arrays-long b → words ≡ seeds + seeds-long b →
-    Deal-says (b .p) (b .n) (b .wide) (b .w) a (take (b .w) xs) (take (seeds - b .w) (drop (b .w) xs)) (take (words - seeds) (drop seeds xs)) (take (length xs - words) (drop words xs)) r o z →
-    Deals b (lent-in b a xs) r o z
+pub deal-cut : (b : Board) (a seeds words : ℕ) (xs : List ℕ) (d : DealAnswer) (r : ℕ) (o z : List ℕ) → seeds ≡ b .w + arrays-long b → words ≡ seeds + seeds-long b →
+    Deal-tells (b .p) (b .n) (b .wide) (b .w) a (take (b .w) xs) (take (seeds - b .w) (drop (b .w) xs)) (take (words - seeds) (drop seeds xs)) (take (length xs - words) (drop words xs)) (told d) o z →
+    r ≡ told d .number → Deals b (lent-in b a xs) r o z
 unfolding Deals
-deal-cut b a seeds words xs r o z s w says = subst (λ (l : Lent). Deals b l r o z) (cut b a seeds words xs s w) says
+deal-cut b a seeds words xs d r o z s w tells e =
+    subst (λ (l : Lent). Deals b l r o z) (cut b a seeds words xs s w) (says-number _ _ _ _ _ _ _ _ _ o z d r tells e)
 
 -- they stand inside
 pub parts-within : (b : Board) (xs : List ℕ) → length xs ≡ asked-bytes b → b .w + arrays-long b + seeds-long b ≤ length xs
 unfolding asked-bytes
 parts-within b xs long = omega arith
 
--- 8 comes before 9
-eight-nine : (t : Bool) (n : ℕ) → or-else (cond t 0 8) n ≡ cond (not t) 8 n
-unfolding or-else
-eight-nine true n = refl
-eight-nine false n = refl
-
 module _ (b : Board) (a : ℕ) (xs : List ℕ) (accepted : board-refusal b ≡ 0) (point : a < b .n) (long : length xs ≡ asked-bytes b) where
-  arrays : Bool
-  arrays = arrays-good (grid-rows b) 0 b a (lent-in b a xs .arrays)
+  abbrev fault : ℕ
+  fault = lent-fault b (lent-in b a xs) .number
 
   lengths : length xs ≡ b .w + arrays-long b + seeds-long b + words-long b
   unfolding asked-bytes
   lengths = long
 
-  -- Deal asks only 8 of them
-  deal-asks : deal-refusal b (lent-in b a xs) ≡ cond arrays 0 8
-  unfolding deal-refusal lent-in arrays
-  deal-asks =
+  -- Deal asks only 18 to 20 of them
+  sizes-asked : sizes-refusal b (lent-in b a xs) ≡ 0
+  unfolding sizes-refusal lent-in
+  sizes-asked =
       let cells = arrays-long b in
       let seeds = seeds-long b in
       let words = words-long b in
@@ -200,23 +198,27 @@ module _ (b : Board) (a : ℕ) (xs : List ℕ) (accepted : board-refusal b ≡ 0
       let four = eq-eqb (length (drop (b .w + cells + seeds) xs)) words (fourth-part (b .w) cells seeds words xs lengths) in
       rw (accepted, lt-leb (b .n) a point, one, two, three, four)
 
-  -- the keys are as long as they are asked, where the arrays are in order
-  keys-fit : arrays ≡ true → length (keys-of b (lent-in b a xs)) ≡ b .p * key-long b
-  unfolding keys-of
-  keys-fit fine = keys-count b (lent-in b a xs) (deal-asks ∙ rw fine)
+  deal-asks : deal-refusal b (lent-in b a xs) ≡ fault
+  unfolding deal-refusal
+  deal-asks = next-fits (sizes-refusal b (lent-in b a xs)) fault sizes-asked
 
-  -- 8, 9: with an output of the most bytes, Deal's numbers are the program's
+  -- the keys are as long as they are asked, where the arrays are in order
+  keys-fit : fault ≡ 0 → length (keys-of b (lent-in b a xs)) ≡ b .p * key-long b
+  unfolding keys-of
+  keys-fit fine = keys-count b (lent-in b a xs) (deal-asks ∙ fine)
+
+  -- 18 to 20, 9: with an output of the most bytes, Deal's numbers are the program's
   program-asks : (room : ℕ) → room ≡ 65536 →
       or-else (deal-refusal b (lent-in b a xs)) (cond (ltb room (b .p * key-long b)) 9 0) ≡ lent-refusal b (lent-in b a xs)
-  unfolding lent-refusal lent-in arrays
-  program-asks room is = rw (deal-asks, is) (eight-nine arrays (cond (ltb 65536 (b .p * key-long b)) 9 0))
+  unfolding lent-refusal
+  program-asks room is = rw (deal-asks, is)
 
   -- where neither refuses, the keys are as many as asked, and not above the most
   pub dealt-keys : lent-refusal b (lent-in b a xs) ≡ 0 → (length (keys-of b (lent-in b a xs)) ≡ b .p * key-long b) × (b .p * key-long b ≤ 65536)
-  unfolding lent-refusal lent-in arrays
+  unfolding lent-refusal
   dealt-keys z =
-      let eight = passed (not arrays) 8 _ (λ t n. omega arith) z in
-      (keys-fit (not-false arrays (eight .0)), room-there 65536 (b .p * key-long b) (eight .1))
+      let both = neither fault _ z in
+      (keys-fit (both .0), room-there 65536 (b .p * key-long b) (both .1))
 
   -- what Deal leaves in such an output
   module _ (r : ℕ) (o z : List ℕ) (room : length o ≡ 65536) (says : Deals b (lent-in b a xs) r o z) where

@@ -10,7 +10,7 @@ use Rattle.xor.specs.Xor.{xors, zeros}
 use Rattle.xor.proofs.Laws.{good-zeros}
 use Rattle.grid.specs.Grid.{Board, bit, columns, grid-rows, row-long, row-of, piece, xor-rows, xor-all, last-word, all-words}
 use Rattle.keys.specs.Keys.{header, packed, mark-bytes, held-seeds, body-from, glued, rows-from, words-from}
-use Rattle.keys.specs.Keys.{Lent, dealing, key, keys-from, key-long, deal-refusal}
+use Rattle.keys.specs.Keys.{Lent, dealing, key, keys-from, key-long, sizes-refusal, deal-refusal}
 use Rattle.keys.proofs.Lists.{glue-words}
 use Rattle.chacha20.proofs.Stream.{word-expand}
 use Rattle.seed_rows.specs.Rows.{rule}
@@ -158,7 +158,7 @@ module _ (b : Board) (l : Lent) where
       (keys-same k (suc i))
 
   blank-asks : deal-refusal b (blank l) ≡ deal-refusal b l
-  unfolding deal-refusal
+  unfolding deal-refusal sizes-refusal
   blank-asks = rw (← zeros-same (l .value), ← zeros-same (l .seeds), ← zeros-same (l .words))
 
   -- the keys of an accepted dealing have p × K numbers

@@ -6,8 +6,9 @@ use mathlib.Core.List.{List}
 use Prim.Native.Nat.{ℕ, _+_, _*_}
 use lib.Dec.{ltb, leb, eqb}
 use lib.ListN.{length, getD, take, drop}
-use Rattle.grid.specs.Grid.{Board, board, board-refusal, grid-rows, arrays-long, seeds-long, words-long, arrays-good}
-use Rattle.keys.specs.Keys.{numbers-in, Lent, key-long, keys-from, or-else, lent}
+use Rattle.grid.specs.Grid.{Board, board, board-refusal, arrays-long, seeds-long, words-long}
+use Rattle.grid.specs.declared.fault.Fault.{Fault}
+use Rattle.keys.specs.Keys.{numbers-in, Lent, lent-fault, key-long, keys-from, or-else, lent}
 use Rattle.call_answers.specs.Answers.{Deal-says}
 use Rattle.seed_rows.specs.Rows.{rule}
 use Rattle.text.specs.Text.{refused-line}
@@ -45,12 +46,11 @@ asked-refusal b a whole rest =
     cond (not (eqb (board-refusal b) 0)) (board-refusal b)
     (cond (leb (b .n) a) 6 (cond (ltb most-bytes whole || not (eqb rest (asked-bytes b))) 7 0))
 
--- those that the lent parts decide: 8, 9
+-- those that the lent parts decide: 18 to 20, "the number alone", and 9
 unfoldable pub lent-refusal : Board → Lent → ℕ
-lent-refusal b l =
-    cond (not (arrays-good (grid-rows b) 0 b (l .point) (l .arrays))) 8 (cond (ltb most-bytes (b .p * key-long b)) 9 0)
+lent-refusal b l = or-else (lent-fault b l .number) (cond (ltb most-bytes (b .p * key-long b)) 9 0)
 
--- "The dealing program checks 10 first, then as Deal": 10, 1 to 5, 6, 7, 8, 9
+-- "The dealing program checks 10 first, then as Deal": 10, 1 to 5, 6, 7, 18 to 20, 9
 unfoldable pub dealing-refusal : (input : List ℕ) → ℕ
 dealing-refusal bs =
     let i = input-in bs in

@@ -5,6 +5,7 @@ use grid::board::Board;
 use key_header::numbers::five_numbers;
 use key_lengths::key_length;
 use nosingginger::deal;
+use nosingginger::deal_number;
 use nosingginger::refusals::ACCEPTED;
 use nosingginger::refusals::REFUSED_LENT;
 use nosingginger::refusals::REFUSED_NUMBER;
@@ -47,7 +48,7 @@ fn asked_refusal(board: Board, point: u32, whole: usize, rest: usize) -> u32
     ACCEPTED
 }
 
-// Deals from what stands behind the five numbers, as Deal does from its four parts.
+// Deals from what stands behind the five numbers, as Deal does from its four parts; answers the number alone.
 fn deal_parts(board: Board, point: u32, rest: &[u8], keys: &mut [u8]) -> u32
     requires { ⌜ (board-refusal (board-of board) ≡ 0) × (length (now rest) ≡ asked-bytes (board-of board)) ⌝ }
     ensures { λ r. ⌜ Deals (board-of board) (lent-in (board-of board) point (now (rest .entry))) r (now (keys .entry)) (now (keys .exit)) ⌝ }
@@ -55,7 +56,7 @@ fn deal_parts(board: Board, point: u32, rest: &[u8], keys: &mut [u8]) -> u32
     let arrays = board.value_bytes as usize;
     let seeds = arrays + board.arrays_length();
     let words = seeds + board.seeds_length();
-    deal(
+    let answer = deal(
         board.players,
         board.positions,
         board.width,
@@ -66,10 +67,11 @@ fn deal_parts(board: Board, point: u32, rest: &[u8], keys: &mut [u8]) -> u32
         &rest[seeds..words],
         &rest[words..],
         keys,
-    )
+    );
+    deal_number(answer)
 }
 
-// 8, 9, or the keys.
+// 18 to 20, 9, or the keys.
 fn put_dealt(board: Board, point: u32, rest: &[u8], output: &mut [u8]) -> usize
     requires { ⌜ (board-refusal (board-of board) ≡ 0) × (point < board .positions) × (length (now rest) ≡ asked-bytes (board-of board)) ⌝ }
     requires { ⌜ length (now output) ≡ most-bytes ⌝ }
@@ -83,7 +85,7 @@ fn put_dealt(board: Board, point: u32, rest: &[u8], output: &mut [u8]) -> usize
     put_refusal(refusal, output)
 }
 
-// THE DEALING PROGRAM: 10, 1 to 5, 6, 7, 8, 9; or the keys.
+// THE DEALING PROGRAM: 10, 1 to 5, 6, 7, 18 to 20, 9; or the keys.
 pub fn dealing_program(input: &[u8], output: &mut [u8; 65536]) -> usize
     ensures { λ r. ⌜ Writes (dealing-output (now (input .entry))) r (now (output .entry)) (now (output .exit)) ⌝ }
 {

@@ -4,6 +4,7 @@ ghost use mathlib.Core.Bool.{true};
 ghost use lib.ListN.{length, replicate};
 ghost use Rattle.test_answers.specs.Answers.{Same-numbers, Left};
 use call_answers::Answer;
+use call_answers::DealAnswer;
 use reader::byte;
 use reader::part_from;
 use test_case_file::REFUSAL;
@@ -39,6 +40,21 @@ fn with_value(refusal: u32, value: u32) -> Answered {
 
 pub fn answer(got: Answer) -> Answered {
     with_value(got.refusal, got.value)
+}
+
+// Deal's number and place: 1, grid row and column where it has one.
+pub fn deal_answer(got: DealAnswer) -> Answered {
+    match got {
+        DealAnswer::Number(refusal) => alone(refusal),
+        DealAnswer::Fault(fault) => Answered {
+            refusal: fault.number,
+            first: 1,
+            second: fault.grid_row,
+            third: fault.column,
+            fourth: 0,
+            fifth: 0,
+        },
+    }
 }
 
 // A number alone.

@@ -22,6 +22,7 @@ use reader::byte;
 use test_answers::Answered;
 use test_answers::alone;
 use test_answers::answer;
+use test_answers::deal_answer;
 use test_answers::fill;
 use test_answers::left;
 use test_answers::same_numbers;
@@ -59,7 +60,7 @@ fn deal(head: &[u8], inputs: &[u8], lent: &mut [u8]) -> Answered {
     let arrays = length_at(head, INPUT_2);
     let seeds = length_at(head, INPUT_3);
     let words = length_at(head, INPUT_4);
-    alone(nosingginger::deal(
+    let got = nosingginger::deal(
         number_at(head, NUMBER_1),
         number_at(head, NUMBER_2),
         number_at(head, NUMBER_3),
@@ -70,7 +71,8 @@ fn deal(head: &[u8], inputs: &[u8], lent: &mut [u8]) -> Answered {
         part(inputs, value + arrays, seeds),
         part(inputs, value + arrays + seeds, words),
         lent,
-    ))
+    );
+    deal_answer(got)
 }
 
 fn check_key(inputs: &[u8]) -> Answered {

@@ -10,7 +10,7 @@ use native.Mathlib.Omega.{arith}
 use lib.Dec.{ltb, eqb}
 use lib.ListN.{length, take, drop, replicate, length-append, length-replicate, take-append-drop, drop-of-length-le}
 use lib.Seq.{take-all, length-take-le}
-use borrow.Author.Tests.{lt-ltb, ltb-false, eqb-true, not-false}
+use borrow.Author.Tests.{lt-ltb, ltb-false, eqb-true}
 use Rattle.xor.specs.Xor.{xors, zeros, bytes-good}
 use Rattle.xor.proofs.Laws.{good-take, good-drop, length-xors}
 use Rattle.grid.specs.Grid.{Board, board, board-refusal}
@@ -19,8 +19,9 @@ use Rattle.grid.proofs.Facts.{board-in}
 use Rattle.grid.proofs.Sums.{over-last, over-same}
 use Rattle.keys.specs.Keys.{Lent, header, key, key-refusal, head-in, table, deal-refusal, key-long, keys-from, or-else, lent}
 use Rattle.keys.specs.Promise.{point-table}
-use Rattle.keys.proofs.Accepted.{passed, refusing, first-fits, next-fits, neither}
+use Rattle.keys.proofs.Accepted.{passed, first-fits, next-fits, neither}
 use Rattle.keys.proofs.Dealing.{lent-in}
+use Rattle.keys.proofs.Lending.{accepted-fits}
 use Rattle.keys.proofs.Numbers.{one-group}
 use Rattle.call_answers.specs.Answers.{Put-says, key-rule, Deal-says, Long-says, Open-one-says, Open-all-says}
 use Rattle.seed_rows.specs.Rows.{rule}
@@ -127,10 +128,9 @@ module _ (K players size player : ℕ) (keys : List ℕ) (good : bytes-good keys
 
 -- the keys of an accepted dealing have a byte at least
 keys-some : (b : Board) (l : Lent) → deal-refusal b l ≡ 0 → 0 < b .p * key-long b
-unfolding deal-refusal key-long header
+unfolding key-long header
 keys-some b l none =
-    let named = passed (not (eqb (board-refusal b) 0)) (board-refusal b) _ (refusing (board-refusal b)) none in
-    let players = board-in b (eqb-true (board-refusal b) 0 (not-false (eqb (board-refusal b) 0) (named .0))) .players-least in
+    let players = board-in b (accepted-fits b l none .sizes .accepted) .players-least in
     let one : 0 < key-long b = rw (one-group 0 (omega arith)) (simp length-append (omega arith)) in
     omega (arith, players, mul-le-mul-left (b .p) one)
 

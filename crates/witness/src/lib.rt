@@ -4,6 +4,7 @@
 // square the same bytes. The contracts say every lent byte afterwards, of refused calls too. The proofs use the calls'
 // contracts and nothing else of their code. No part of the shipped library. Assumes nothing.
 use nosingginger::deal;
+use nosingginger::deal_number;
 use nosingginger::key_length;
 use nosingginger::open_all;
 use nosingginger::open_one;
@@ -73,7 +74,7 @@ pub fn deal_open_join(
 {
     let size = (positions as usize) * (value_bytes as usize);
     let room = keys_lent(keys.len(), table.len(), joined.len(), size);
-    let refusal = deal(
+    let answer = deal(
         players,
         positions,
         width,
@@ -85,6 +86,7 @@ pub fn deal_open_join(
         words,
         &mut keys[..room],
     );
+    let refusal = deal_number(answer);
     if refusal != 0 {
         return refusal;
     }

@@ -1,59 +1,78 @@
 -- `deal_call::deal` meets its contract. Assumes nothing.
-use mathlib.Core.Path.{sym, _∙_}
 use native.Mathlib.Omega.{arith}
 use Rattle.grid.specs.Grid.{board}
-use Rattle.deal_call.proofs.Lending.{deal-fine, deal-refused, deal-room-refused, dealt}
+use Rattle.deal_call.proofs.Lending.{sizes-in, none-so-far, deal-refused, deal-faulty, deal-room-refused, dealt}
 use Rattle.call_answers.proofs.Sizes.{keys-short, room-for}
 use borrow.Author.Needs.{needs}
 use Rattle.deal_call.proofs.deal.Statement.{statement}
 use Rattle.deal_call.proofs.deal.Tie as tie
 
-deal-refusal-requires : tie.Need-deal-refusal-requires
-deal-refusal-requires c κs = search needs
-
 returns : tie.Need-returns
-returns c = deal-refused _ _ _ _ _ _ _ _ _ _ _ (c .before .deal-refusal .ensures) (c .if1 .taken)
-
-key-length-requires : tie.Need-key-length-requires
-key-length-requires c κs = deal-fine _ _ (sym (c .before .deal-refusal .ensures) ∙ c .if1 .left)
-
-mul-if2 : tie.Need-mul-if2
-unfolding board
-mul-if2 c =
-    let e = c .before in
-    omega (arith, keys-short _ (deal-fine _ _ (sym (e .before .deal-refusal .ensures) ∙ e .if1 .left)) (c .key-length .ensures))
+returns c = deal-refused _ _ _ _ _ _ _ _ _ _ _ (c .before .sizes-refusal .ensures) (c .if1 .taken)
 
 returns-2 : tie.Need-returns-2
 returns-2 c =
-    let e = c .before .before in
-    deal-room-refused _ _ _ _ _ _ _ _ _ _ (sym (e .before .deal-refusal .ensures) ∙ e .if1 .left) _
-    (c .before .key-length .ensures) (omega (arith, c .if2 .taken))
+    let e = c .before .before .before in
+    deal-faulty _ _ _ _ _ _ _ _ _ _ _ _ (e .before .sizes-refusal .ensures) (e .if1 .left) (c .before .before .first-fault .ensures) (c .if2 .taken)
+
+returns-3 : tie.Need-returns-3
+returns-3 c =
+    let f = c .before .before in
+    let e = f .before .before .before in
+    let none = none-so-far _ _ _ (e .before .sizes-refusal .ensures) (e .if1 .left) _ (f .before .before .first-fault .ensures) (f .if2 .left) in
+    deal-room-refused _ _ _ _ _ _ _ _ _ _ none _ (c .before .key-length .ensures) (omega (arith, c .if3 .taken))
+
+returns-4 : tie.Need-returns-4
+returns-4 c =
+    let done = c .before .before in
+    let room = done .before .before in
+    let f = room .before .before in
+    let e = f .before .before .before in
+    let none = none-so-far _ _ _ (e .before .sizes-refusal .ensures) (e .if1 .left) _ (f .before .before .first-fault .ensures) (f .if2 .left) in
+    dealt _ _ _ _ _ _ _ _ _ _ none _ (room .before .key-length .ensures) _ (room .if3 .left) (done .deal-keys .ensures)
+
+sizes-refusal-requires : tie.Need-sizes-refusal-requires
+sizes-refusal-requires c κs = search needs
+
+first-fault-requires : tie.Need-first-fault-requires
+first-fault-requires c κs =
+    let fit = sizes-in _ _ _ (c .before .sizes-refusal .ensures) (c .if1 .left) in
+    (fit .accepted, fit .arrays)
+
+key-length-requires : tie.Need-key-length-requires
+key-length-requires c κs =
+    let e = c .before .before .before in
+    sizes-in _ _ _ (e .before .sizes-refusal .ensures) (e .if1 .left) .accepted
+
+mul-if3 : tie.Need-mul-if3
+unfolding board
+mul-if3 c =
+    let e = c .before .before .before .before in
+    omega (arith, keys-short _ (sizes-in _ _ _ (e .before .sizes-refusal .ensures) (e .if1 .left) .accepted) (c .key-length .ensures))
 
 deal-keys-requires : tie.Need-deal-keys-requires
 deal-keys-requires c κs =
     let room = c .before in
-    let e = room .before .before in
-    (sym (e .before .deal-refusal .ensures) ∙ e .if1 .left, room-for (e .before .before .before .before .before .before .before .args .players) (room .before .key-length .ensures) (room .if2 .left))
+    let f = room .before .before in
+    let e = f .before .before .before in
+    let start = e .before .before .before .before .before .before .before in
+    let none = none-so-far _ _ _ (e .before .sizes-refusal .ensures) (e .if1 .left) _ (f .before .before .first-fault .ensures) (f .if2 .left) in
+    (none, room-for (start .args .players) (room .before .key-length .ensures) (room .if3 .left))
 
 same-length : tie.Need-same-length
 same-length c = search needs
-
-returns-3 : tie.Need-returns-3
-returns-3 c =
-    let done = c .before .before in
-    let room = done .before .before in
-    let e = room .before .before in
-    dealt _ _ _ _ _ _ _ _ _ _ (sym (e .before .deal-refusal .ensures) ∙ e .if1 .left) _ (room .before .key-length .ensures) _ (room .if2 .left) (done .deal-keys .ensures)
 
 pub deal-spec : {M : Type 1} → statement M
 deal-spec =
     tie.close
     (tie.spec
-    deal-refusal-requires
+    sizes-refusal-requires
     returns
-    key-length-requires
-    mul-if2
+    first-fault-requires
     returns-2
+    key-length-requires
+    mul-if3
+    returns-3
     deal-keys-requires
     same-length
-    returns-3)
+    returns-4)

@@ -11,7 +11,7 @@ use Rattle.keys.specs.Keys.{Lent, keys-from, lent}
 use Rattle.writer.specs.Written.{Wrote}
 use Rattle.writer.proofs.Laws.{wrote-nothing}
 use Rattle.seed_rows.specs.Rows.{rule}
-use Rattle.deal_keys.proofs.Lending.{Lent-fits, lent-fits}
+use Rattle.keys.proofs.Lending.{Lent-fits, accepted-fits}
 use Rattle.deal_keys.proofs.KeyBytes.{Begun, front-room, word-room, next-front-room, again-room, turn, all-written}
 use Rattle.deal_keys.proofs.deal_keys.Statement.{statement}
 use Rattle.deal_keys.proofs.deal_keys.Tie as tie
@@ -35,7 +35,7 @@ lent-to s = let a = s .args in lent (a .point) (now (a .value)) (now (a .arrays)
 
 -- nothing is refused
 facts : (s : tie.Start Inv-loop μ-loop) → Lent-fits (board-of (s .args .board)) (lent-to s)
-facts s = lent-fits (board-of (s .args .board)) (lent-to s) (s .pre .0)
+facts s = accepted-fits (board-of (s .args .board)) (lent-to s) (s .pre .0)
 
 -- where the call began, from the place at which the loop is entered
 abbrev entry : tie.After-slice-known3 Inv-loop μ-loop → tie.Start Inv-loop μ-loop
@@ -61,14 +61,14 @@ row-known : (c : tie.After-slice-known3 Inv-loop μ-loop) →
 row-known c = c .before .before .before .before .before .before .before .before .row-length .ensures
 
 row-length-requires : tie.Need-row-length-requires Inv-loop μ-loop
-row-length-requires c κs = facts (c .before .before .before .before .before) .accepted
+row-length-requires c κs = facts (c .before .before .before .before .before) .sizes .accepted
 
 put-front-requires : tie.Need-put-front-requires Inv-loop μ-loop
 unfolding board
 put-front-requires c κs =
     let s = c .before .before .before .before .before .before .before in
     let f = facts s in
-    (f .accepted, omega arith, f .arrays, f .seeds, front-room (board-of (s .args .board)) (lent-to s) f (length (now (s .args .keys))) (s .pre .1))
+    (f .sizes .accepted, omega arith, f .sizes .arrays, f .sizes .seeds, front-room (board-of (s .args .board)) (lent-to s) f (length (now (s .args .keys))) (s .pre .1))
 
 put-last-word-requires : tie.Need-put-last-word-requires Inv-loop μ-loop
 unfolding board
@@ -77,12 +77,12 @@ put-last-word-requires c κs =
     let f = facts s in
     let p = c .before .before .before .put-front in
     let room = word-room (board-of (s .args .board)) (lent-to s) f (length (now (s .args .keys))) (p .result) (s .pre .1) (p .ensures .next-is) in
-    (f .accepted, f .point, f .value, f .seeds, f .words, omega (arith, p .kept .0, room))
+    (f .sizes .accepted, f .sizes .point, f .sizes .value, f .sizes .seeds, f .sizes .words, omega (arith, p .kept .0, room))
 
 loop-holds : tie.Need-loop-holds Inv-loop μ-loop
 unfolding keys-from board
 loop-holds c =
-    let least = board-in (board-of (entry c .args .board)) (facts (entry c) .accepted) .players-least in
+    let least = board-in (board-of (entry c .args .board)) (facts (entry c) .sizes .accepted) .players-least in
     (omega arith, omega (arith, least), refl, wrote-nothing _ _)
 
 loop-again : tie.Need-loop-again Inv-loop μ-loop
@@ -118,11 +118,11 @@ put-front-requires-2 c κs =
     let b = board-of (s .args .board) in
     let f = facts s in
     let l = c .before .before .before .loop in
-    let most = board-in b (f .accepted) .players-most in (
-      f .accepted,
+    let most = board-in b (f .sizes .accepted) .players-most in (
+      f .sizes .accepted,
       omega arith,
-      f .arrays,
-      f .seeds,
+      f .sizes .arrays,
+      f .sizes .seeds,
       next-front-room b (lent-to s) f _ _ _ _ _ (begun g) (l .player) (l .next) (l .keys) (l .inv .0) (l .inv .3) _ (omega arith) (omega arith),
     )
 
@@ -133,7 +133,7 @@ put-again-requires c κs =
     let s = entry g in
     let b = board-of (s .args .board) in
     let f = facts s in
-    let most = board-in b (f .accepted) .players-most in
+    let most = board-in b (f .sizes .accepted) .players-most in
     let l = c .before .before .before .before .before .before .before .loop in
     let room = again-room b (lent-to s) f _ _ _ _ _ (begun g) (l .player) (l .next) (l .keys) (l .inv .0) (l .inv .3) _ (omega arith) (omega arith) _
     (g .before .before .before .before .before .before .before .before .row-length .result) _ (row-known g) (c .before .before .before .put-front2 .ensures) in

@@ -74,13 +74,16 @@ deal-requires c κs = search needs
 same-length : tie.Need-same-length
 same-length c = search needs
 
+deal-number-requires : tie.Need-deal-number-requires
+deal-number-requires c κs = search needs
+
 returns : tie.Need-returns
 unfolding board
 returns c =
-    let seeds = c .before .before .before .before .before .before .before .before in
-    let a = c .before .before .before .before .before .before .before .before .before .before .before .before .before .args in
-    deal-cut (board-of (a .board)) (a .point) _ _ (now (a .rest)) _ (now (a .keys)) _ (ap (λ (n : ℕ). a .board .«value_bytes» + n) (seeds .before .arrays-length .ensures))
-    (ap (λ (n : ℕ). a .board .«value_bytes» + seeds .before .arrays-length .result + n) (seeds .seeds-length .ensures)) (c .before .before .deal .ensures)
+    let seeds = c .before .before .before .before .before .before .before .before .before in
+    let a = c .before .before .before .before .before .before .before .before .before .before .before .before .before .before .args in
+    deal-cut (board-of (a .board)) (a .point) _ _ (now (a .rest)) _ _ (now (a .keys)) _ (ap (λ (n : ℕ). a .board .«value_bytes» + n) (seeds .before .arrays-length .ensures))
+    (ap (λ (n : ℕ). a .board .«value_bytes» + seeds .before .arrays-length .result + n) (seeds .seeds-length .ensures)) (c .before .before .before .deal .ensures) (c .deal-number .ensures)
 
 pub deal-parts-spec : {M : Type 1} → statement M
 deal-parts-spec =
@@ -102,5 +105,6 @@ deal-parts-spec =
     part-deal-start-3
     part-deal-end-3
     deal-requires
+    deal-number-requires
     same-length
     returns)

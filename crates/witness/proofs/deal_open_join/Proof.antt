@@ -7,16 +7,18 @@ use lib.Seq.{length-take-le}
 use denote.Ref.{now}
 use borrow.Author.Needs.{needs}
 use Rattle.xor.proofs.Laws.{good-by-entries}
+use Rattle.call_answers.proofs.Telling.{says-number}
 use Rattle.witness.proofs.Showing.{product-fits, lent-fits, Asked, deal-refused, rooms, each-opens, piece-shown}
 use Rattle.witness.proofs.deal_open_join.Statement.{statement}
 use Rattle.witness.proofs.deal_open_join.Tie as tie
 
 -- Deal as it was asked
-abbrev asked : (c : tie.After-deal) → let args = c .before .before .before .before .before .before .before .before .before .before .args in
+abbrev asked : (c : tie.After-deal-number) → let args = c .before .before .before .before .before .before .before .before .before .before .before .before .before .args in
     Asked (args .players) (args .positions) (args .width) (args .value-bytes) (args .point) (now (args .value)) (now (args .arrays)) (now (args .seeds))
-    (now (args .words)) (now (args .keys)) (now (args .table)) (now (args .joined)) (c .deal .result)
+    (now (args .words)) (now (args .keys)) (now (args .table)) (now (args .joined)) (c .deal-number .result)
 asked c =
-    let lent = c .before .before in
+    let dealt = c .before .before .before in
+    let lent = dealt .before .before in
     let words = lent .before .before .before .before in
     let seeds = words .before in
     let value = seeds .before .before in
@@ -27,7 +29,7 @@ asked c =
       room = _;
       given = lent .keys-lent .ensures;
       part = _;
-      says = c .deal .ensures;
+      says = says-number _ _ _ _ _ _ _ _ _ _ _ _ _ (dealt .deal .ensures) (c .deal-number .ensures);
     }
 
 mul-size : tie.Need-mul-size
@@ -47,11 +49,14 @@ slice-aggregate-deal c = sym (length-take-le _ _ (lent-fits _ _ _ _ _ (c .before
 deal-requires : tie.Need-deal-requires
 deal-requires c κs = search needs
 
+deal-number-requires : tie.Need-deal-number-requires
+deal-number-requires c κs = search needs
+
 same-length : tie.Need-same-length
 same-length c = search needs
 
 returns : tie.Need-returns
-returns c = deal-refused (asked (c .before .before .before)) (c .if1 .taken)
+returns c = deal-refused (asked (c .before)) (c .if1 .taken)
 
 key-length-requires : tie.Need-key-length-requires
 key-length-requires c κs = search needs
@@ -60,9 +65,9 @@ cast-key-bytes : tie.Need-cast-key-bytes
 cast-key-bytes c = search needs
 
 -- where Deal did not refuse, both tables have room
-room : (c : tie.Else1) → let args = c .before .before .before .before .before .before .before .before .before .before .before .before .before .args in
+room : (c : tie.Else1) → let args = c .before .before .before .before .before .before .before .before .before .before .before .before .before .before .args in
     (args .positions * args .value-bytes ≤ length (now (args .table))) × (args .positions * args .value-bytes ≤ length (now (args .joined)))
-room c = let fits = rooms (asked (c .before .before .before)) (c .if1 .left) in (fits .1, fits .2)
+room c = let fits = rooms (asked (c .before)) (c .if1 .left) in (fits .1, fits .2)
 
 slice-relend-prefix-join-tables : tie.Need-slice-relend-prefix-join-tables
 slice-relend-prefix-join-tables c = omega (arith, room (c .before .before .before))
@@ -80,7 +85,7 @@ join-tables-requires : tie.Need-join-tables-requires
 join-tables-requires c κs =
     let long = c .before .before .before .before in
     let fits = room (long .before) in
-    each-opens (asked (long .before .before .before .before)) (long .before .if1 .left) _ (long .key-length .ensures) _ _
+    each-opens (asked (long .before .before)) (long .before .if1 .left) _ (long .key-length .ensures) _ _
     (length-take-le _ _ (omega (arith, fits))) (length-take-le _ _ (omega (arith, fits)))
 
 same-length-2 : tie.Need-same-length-2
@@ -97,7 +102,7 @@ returns-2 c =
     let made = c .before .before .before .before .join-tables in
     let long = c .before .before .before .before .before .before .before .before .before in
     let fits = room (long .before) in
-    piece-shown (asked (long .before .before .before .before)) (long .before .if1 .left) _ (long .key-length .ensures) _ _ _
+    piece-shown (asked (long .before .before)) (long .before .if1 .left) _ (long .key-length .ensures) _ _ _
     (length-take-le _ _ (omega (arith, fits)))
     (made .kept .1 .1 .1 .0 ∙ (length-take-le _ _ (omega (arith, fits)))) (made .kept .1 .1 .1 .1 .0 ∙ (length-take-le _ _ (omega (arith, fits))))
     (made .ensures .0) (made .ensures .1)
@@ -111,6 +116,7 @@ deal-open-join-spec =
     slice-relend-prefix-deal
     slice-aggregate-deal
     deal-requires
+    deal-number-requires
     same-length
     returns
     key-length-requires

@@ -1,0 +1,153 @@
+-- What Deal tells: the answer is fixed by it, and it has a place exactly where its number is 18 or more. Assumes nothing.
+use mathlib.Core.Path.{_≡_, refl, sym, ap, _∙_, subst⁻¹}
+use mathlib.Core.Bool.{Bool, true, false, cond}
+use mathlib.Core.List.{List, [], _∷_}
+use Prim.Native.Nat.{ℕ, zero, suc, _*_, _≤_, _<_}
+use native.Mathlib.Omega.{arith}
+use borrow.Author.Tests.{eqb-true, eqb-false, le-leb, lt-leb}
+use lib.Dec.{ltb, leb, eqb}
+use lib.ListN.{length, getD}
+use Rattle.grid.specs.Grid.{Board, board}
+use Rattle.grid.specs.Faults.{First-fault, Place-is-first}
+use Rattle.grid.proofs.Faults.{place-is-first}
+use Rattle.grid.specs.declared.fault.Fault.{Fault}
+use Rattle.keys.specs.Keys.{Lent, lent, sizes-refusal, lent-fault, deal-refusal, deal-place, key-long, or-else}
+use Rattle.keys.proofs.Accepted.{first-fits, next-fits}
+use Rattle.keys.proofs.Lending.{sizes-most, fault-least}
+use Rattle.call_answers.specs.Answers.{Told, told, Told-once, Deal-says, Deal-tells}
+use Rattle.call_answers.specs.declared.DealAnswer.{DealAnswer}
+use Rattle.call_answers.proofs.Putting.{answer-is}
+
+-- THE ANSWER IS FIXED
+
+made : (n g c : ℕ) → Fault
+made n g c = record { number = n; «grid_row» = g; column = c }
+
+same-made : (n g c m h d : ℕ) → n ≡ m → g ≡ h → c ≡ d → made n g c ≡ made m h d
+same-made n g c m h d e f k = rw (e, f, k)
+
+same-fault : (f g : Fault) → told (DealAnswer.Fault f) ≡ told (DealAnswer.Fault g) → f ≡ g
+unfolding told made
+same-fault f g e =
+    let place = ap (λ (t : Told). t .place) e in
+    same-made _ _ _ _ _ _ (ap (λ (t : Told). t .number) e) (ap (λ (xs : List ℕ). getD xs 0 0) place) (ap (λ (xs : List ℕ). getD xs 1 0) place)
+
+pub told-once : Told-once
+unfolding Told-once told
+told-once (DealAnswer.Number n) (DealAnswer.Number m) e = ap DealAnswer.Number (ap (λ (t : Told). t .number) e)
+told-once (DealAnswer.Number n) (DealAnswer.Fault g) e =
+    let none : _≡_ {A = ℕ} 0 2 = ap (λ (t : Told). length (t .place)) e in absurd (omega arith)
+told-once (DealAnswer.Fault f) (DealAnswer.Number m) e =
+    let none : _≡_ {A = ℕ} 2 0 = ap (λ (t : Told). length (t .place)) e in absurd (omega arith)
+told-once (DealAnswer.Fault f) (DealAnswer.Fault g) e = ap DealAnswer.Fault (same-fault f g e)
+
+-- A PLACE EXACTLY WITH 18 TO 20
+
+-- of three numbers, the first that is not 0, or the last
+picked : (C : Type 0) (s f e n : ℕ) → n ≡ or-else (or-else s f) e → (n ≡ s → (s ≡ 0 → ⊥) → C) → (n ≡ f → (f ≡ 0 → ⊥) → C) → (n ≡ e → C) → C
+picked C s f e n is by-s by-f by-e = go (eqb s 0) refl (eqb f 0) refl
+  where
+    go : (t : Bool) → eqb s 0 ≡ t → (u : Bool) → eqb f 0 ≡ u → C
+    go false h u k =
+        let some = eqb-false s 0 h in
+        let first = first-fits s f some in
+        by-s (is ∙ first-fits (or-else s f) e (λ z. some (sym first ∙ z)) ∙ first) some
+    go true h false k =
+        let some = eqb-false f 0 k in
+        let next = next-fits s f (eqb-true s 0 h) in
+        by-f (is ∙ first-fits (or-else s f) e (λ z. some (sym next ∙ z)) ∙ next) some
+    go true h true k = by-e (is ∙ next-fits (or-else s f) e (next-fits s f (eqb-true s 0 h) ∙ eqb-true f 0 k))
+
+-- what comes behind Deal's other numbers is below 18
+large-kept : (d rest : ℕ) → rest < 18 → leb 18 (or-else d rest) ≡ leb 18 d
+unfolding or-else
+large-kept d rest h = go (eqb d 0) refl
+  where
+    go : (t : Bool) → eqb d 0 ≡ t → leb 18 (cond t rest d) ≡ leb 18 d
+    go true e = rw (eqb-true d 0 e) (lt-leb 18 rest h)
+    go false e = refl
+
+-- 9, or nothing
+nine-or-none : (t : Bool) (n : ℕ) → n ≡ cond t 9 0 → (n < 18) × (n ≡ 8 → ⊥)
+nine-or-none true n e = (omega arith, λ z. omega arith)
+nine-or-none false n e = (omega arith, λ z. omega arith)
+
+module _ (p n m w a : ℕ) (v cs ss ws : List ℕ) (r : Told) (o z : List ℕ) (tells : Deal-tells p n m w a v cs ss ws r o z) where
+  abbrev on : Board
+  on = board p n m w
+
+  abbrev l : Lent
+  l = lent a v cs ss ws
+
+  abbrev f : Fault
+  f = lent-fault on l
+
+  -- the number is one of 1 to 7, the fault's, or 9 or 0
+  number-by : (C : Type 0) → (r .number ≤ 7 → C) → (r .number ≡ f .number → (f .number ≡ 0 → ⊥) → C) → ((r .number < 18) × (r .number ≡ 8 → ⊥) → C) → C
+  unfolding Deal-tells Deal-says deal-refusal
+  number-by C by-sizes by-fault by-room =
+      let short = ltb (length o) (p * key-long on) in
+      picked C (sizes-refusal on l) (f .number) (cond short 9 0) (r .number) (answer-is _ _ (r .number) o z (tells .1))
+      (λ is some. by-sizes (omega (arith, sizes-most on l))) by-fault (λ is. by-room (nine-or-none short (r .number) is))
+
+  pub never-8 : r .number ≡ 8 → ⊥
+  never-8 e =
+      number-by ⊥ (λ few. omega arith) (λ is some. omega (arith, fault-least on l some)) (λ room. room .1 e)
+
+  -- a place is told exactly where the number is 18 or more
+  pub place-is : r .place ≡ cond (leb 18 (r .number)) (f .«grid_row» ∷ f .column ∷ []) []
+  unfolding Deal-tells Deal-says deal-place
+  place-is =
+      let short = ltb (length o) (p * key-long on) in
+      let number : r .number ≡ or-else (deal-refusal on l) (cond short 9 0) = answer-is _ _ (r .number) o z (tells .1) in
+      rw (number, large-kept (deal-refusal on l) (cond short 9 0) (nine-or-none short (cond short 9 0) refl .0)) (tells .0)
+
+  pub place-long : length (r .place) ≡ cond (leb 18 (r .number)) 2 0
+  place-long = ap (λ (xs : List ℕ). length xs) place-is ∙ go (leb 18 (r .number))
+    where
+      go : (t : Bool) → length {A = ℕ} (cond t (f .«grid_row» ∷ f .column ∷ []) []) ≡ cond t 2 0
+      go true = refl
+      go false = refl
+
+  pub no-place : r .number < 18 → r .place ≡ []
+  no-place h = place-is ∙ rw (lt-leb 18 (r .number) h)
+
+  module _ (h : 18 ≤ r .number) where
+    place-there : r .place ≡ f .«grid_row» ∷ f .column ∷ []
+    place-there = place-is ∙ rw (le-leb 18 (r .number) h)
+
+    pub two-numbers : length (r .place) ≡ 2
+    two-numbers = place-long ∙ rw (le-leb 18 (r .number) h)
+
+    number-is : r .number ≡ f .number
+    number-is = number-by (r .number ≡ f .number) (λ few. absurd (omega arith)) (λ is some. is) (λ room. absurd (omega arith))
+
+    pub first-told : First-fault on a cs (record { number = r .number; «grid_row» = getD (r .place) 0 0; column = getD (r .place) 1 0 })
+    unfolding made Place-is-first
+    first-told =
+        subst⁻¹ (λ (g : Fault). First-fault on a cs g)
+        (same-made _ _ _ _ _ _ number-is (ap (λ (xs : List ℕ). getD xs 0 0) place-there) (ap (λ (xs : List ℕ). getD xs 1 0) place-there))
+        (place-is-first on a cs (λ none. omega (arith, number-is)))
+
+-- an answer without a place is below 18, and one with a place is not
+long-none : (t : Bool) → _≡_ {A = ℕ} 0 (cond t 2 0) → t ≡ false
+long-none true e = absurd (omega arith)
+long-none false e = refl
+
+long-two : (t : Bool) → _≡_ {A = ℕ} 2 (cond t 2 0) → t ≡ true
+long-two true e = refl
+long-two false e = absurd (omega arith)
+
+module _ (p n m w a : ℕ) (v cs ss ws o z : List ℕ) where
+  pub plain-small : (k : ℕ) → Deal-tells p n m w a v cs ss ws (told (DealAnswer.Number k)) o z → leb 18 k ≡ false
+  unfolding told
+  plain-small k tells = long-none (leb 18 k) (place-long p n m w a v cs ss ws _ o z tells)
+
+  -- and its number alone is what Deal says
+  pub says-number : (d : DealAnswer) (k : ℕ) → Deal-tells p n m w a v cs ss ws (told d) o z → k ≡ told d .number → Deal-says p n m w a v cs ss ws k o z
+  unfolding Deal-tells
+  says-number d k tells e = rw e (tells .1)
+
+  pub placed-large : (g : Fault) → Deal-tells p n m w a v cs ss ws (told (DealAnswer.Fault g)) o z → leb 18 (g .number) ≡ true
+  unfolding told
+  placed-large g tells = long-two (leb 18 (g .number)) (place-long p n m w a v cs ss ws _ o z tells)

@@ -1,0 +1,37 @@
+-- WHAT IS WRONG WITH ARRAYS, AND WHERE FIRST: document 02, (i), whose sentences are quoted. proofs/BadArrays.antt has the term.
+-- Assumes nothing.
+use mathlib.Core.Path.{_≡_}
+use mathlib.Core.List.{List, []}
+use Prim.Native.Nat.{ℕ, _≤_, _<_}
+use lib.ListN.{length, getD}
+use Rattle.grid.specs.Grid.{Board, board}
+use Rattle.grid.specs.Faults.{First-fault}
+unfoldable pub use Rattle.grid.specs.Faults.{Fault-where-bad, Place-is-first}
+use Rattle.call_answers.specs.Answers.{Told, Deal-tells}
+unfoldable pub use Rattle.call_answers.specs.Answers.{Told-once}
+
+-- what an answer of Deal says of the arrays of a board and a point
+pub record Place-told (b : Board) (point : ℕ) (arrays : List ℕ) (r : Told) : Type 0 where
+  -- 8 "is no longer given"
+  pub never-8 : r .number ≡ 8 → ⊥
+  -- a number below 18 comes without a place
+  pub no-place : r .number < 18 → r .place ≡ []
+  -- any other "comes with the grid row and column of the first fault"
+  pub two-numbers : 18 ≤ r .number → length (r .place) ≡ 2
+  pub first : 18 ≤ r .number →
+      First-fault b point arrays (record { number = r .number; «grid_row» = getD (r .place) 0 0; column = getD (r .place) 1 0 })
+
+unfoldable pub Deals-place : Type 0
+Deals-place =
+    (p n m w point : ℕ) (value arrays seeds words : List ℕ) (r : Told) (out out-now : List ℕ) →
+    Deal-tells p n m w point value arrays seeds words r out out-now → Place-told (board p n m w) point arrays r
+
+pub record Bad-arrays : Type 0 where
+  -- there is a fault exactly where the arrays are not good, so that hiding, joining and what is accepted are as they were
+  pub fault-where-bad : Fault-where-bad
+  -- its place is the first: the number fits there, no smaller one does, and none fits at any earlier place
+  pub place-is-first : Place-is-first
+  -- of the call: what Deal answers
+  pub deals-place : Deals-place
+  -- what it tells fixes its answer
+  pub told-once : Told-once
