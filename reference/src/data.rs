@@ -1,7 +1,7 @@
 //! The comparison's data: cases with their answers, in the bytes that FORMAT.md describes.
 
 use crate::chacha::expand;
-use crate::deal::{deal, Dealing};
+use crate::deal::{deal, Dealing, Refused};
 use crate::join::{join_keys, join_shares};
 use crate::key::{check_key, held_seed, held_seed_place, key_length};
 use crate::open::{open_all, open_one};
@@ -51,7 +51,7 @@ pub struct Call {
 pub struct Answer {
     /// 0 when accepted.
     pub refusal: u32,
-    /// The answers that are numbers, else zero; all zero on a refusal.
+    /// The answers that are numbers, else zero; all zero on a refusal without a place.
     pub results: [u32; 5],
     /// The bytes written at the front of the output; all others keep the fill.
     pub bytes: Vec<u8>,
@@ -59,28 +59,40 @@ pub struct Answer {
 
 impl Call {
     /// Makes the call on an output full of `fill`, and gives the results and all the output.
-    fn on_output(&self, fill: u8) -> (Result<[u32; 5], u32>, Vec<u8>) {
+    fn on_output(&self, fill: u8) -> (Result<[u32; 5], Refused>, Vec<u8>) {
         let mut output = vec![fill; self.lent];
-        let [a, b, c, d, e] = self.numbers;
+        let result = match self.operation {
+            DEAL => deal(&self.dealing(), &mut output).map(|()| [0; 5]),
+            _ => self.but_deal(&mut output).map_err(Refused::from),
+        };
+        (result, output)
+    }
+
+    /// What a call of Deal is lent.
+    fn dealing(&self) -> Dealing<'_> {
+        let [players, positions, grid_width, value_width, point] = self.numbers;
+        let [value, arrays, seeds, words] = &self.inputs;
+        Dealing {
+            players,
+            positions,
+            grid_width,
+            value_width,
+            point,
+            value,
+            arrays,
+            seeds,
+            words,
+        }
+    }
+
+    /// Makes the call of any operation but Deal, whose refusals alone have a place.
+    fn but_deal(&self, output: &mut [u8]) -> Result<[u32; 5], u32> {
+        let [a, b, c, d, _] = self.numbers;
         let input = &self.inputs[0];
         let one = |number| [number, 0, 0, 0, 0];
         let none = |()| [0; 5];
-        let result = match self.operation {
+        match self.operation {
             KEY_LENGTH => key_length(a, b, c, d).map(one),
-            DEAL => {
-                let dealing = Dealing {
-                    players: a,
-                    positions: b,
-                    grid_width: c,
-                    value_width: d,
-                    point: e,
-                    value: &self.inputs[0],
-                    arrays: &self.inputs[1],
-                    seeds: &self.inputs[2],
-                    words: &self.inputs[3],
-                };
-                deal(&dealing, &mut output).map(none)
-            }
             CHECK_KEY => check_key(input).map(|header| {
                 [
                     header.players,
@@ -90,16 +102,15 @@ impl Call {
                     header.value_width,
                 ]
             }),
-            OPEN_ONE => open_one(input, a, &mut output).map(none),
-            OPEN_ALL => open_all(input, &mut output).map(none),
-            JOIN_SHARES => join_shares(a, b, input, &mut output).map(none),
-            JOIN_KEYS => join_keys(input, &mut output).map(none),
-            EXPAND => expand(input, &mut output).map(none),
+            OPEN_ONE => open_one(input, a, output).map(none),
+            OPEN_ALL => open_all(input, output).map(none),
+            JOIN_SHARES => join_shares(a, b, input, output).map(none),
+            JOIN_KEYS => join_keys(input, output).map(none),
+            EXPAND => expand(input, output).map(none),
             CHOOSE_WIDTH => choose_width(a, b).map(one),
             SENSOR_POSITION => sensor_position(a).map(one),
             other => panic!("no operation {other} on a lent output"),
-        };
-        (result, output)
+        }
     }
 
     /// The call's answer by this implementation. Panics when a byte outside of the answer's
@@ -125,8 +136,8 @@ impl Call {
             assert_eq!(written, 0, "a refusal leaves all lent bytes unchanged");
         }
         Answer {
-            refusal: result.err().unwrap_or(0),
-            results: result.unwrap_or([0; 5]),
+            refusal: result.err().map_or(0, |refused| refused.number),
+            results: result.unwrap_or_else(place_numbers),
             bytes: output[..written].to_vec(),
         }
     }
@@ -139,6 +150,14 @@ impl Call {
             results: [place as u32, 0, 0, 0, 0],
             bytes: held_seed(key, grid_row, column).to_vec(),
         }
+    }
+}
+
+/// The numbers that come out of a refusal: 1, grid row and column where it has a place.
+fn place_numbers(refused: Refused) -> [u32; 5] {
+    match refused.place {
+        Some(place) => [1, place.grid_row, place.column, 0, 0],
+        None => [0; 5],
     }
 }
 

@@ -40,23 +40,79 @@ pub fn input_lengths(board: &Board) -> [usize; 4] {
     ]
 }
 
-/// "An even array holds every column of p bits with an even count of ones exactly once; an
-/// odd array every column with an odd count." `ones` is 0 for even and 1 for odd. A byte "with
-/// a bit at p or above, wrong parity for its grid row, or a column twice" is turned away; J
-/// different columns of one parity are all of them.
-pub fn is_array(players: usize, ones: u32, array: &[u8]) -> bool {
-    for (place, &column) in array.iter().enumerate() {
-        if column >> players != 0 {
-            return false;
-        }
-        if column.count_ones() % 2 != ones {
-            return false;
-        }
-        if array[..place].contains(&column) {
-            return false;
+/// Where a column stands: places are in order "row by row and column by column".
+#[derive(Clone, Copy, Debug, PartialEq, Eq, PartialOrd, Ord)]
+pub struct Place {
+    pub grid_row: u32,
+    /// Counted from 0 in its array.
+    pub column: u32,
+}
+
+/// Why Deal refuses: a number, and where it is 18, 19 or 20 "the grid row and column of the
+/// first fault". No other number has a place.
+#[derive(Clone, Copy, Debug, PartialEq, Eq)]
+pub struct Refused {
+    pub number: u32,
+    pub place: Option<Place>,
+}
+
+impl From<u32> for Refused {
+    /// A refusal without a place.
+    fn from(number: u32) -> Refused {
+        Refused {
+            number,
+            place: None,
         }
     }
-    array.len() == 1 << (players - 1)
+}
+
+/// What is wrong with one column, where `earlier` are the columns before it in its array:
+/// document 02's three numbers, "at one column the order is as follows". "An even array holds
+/// every column of p bits with an even count of ones exactly once; an odd array every column
+/// with an odd count": `ones` is 0 for even and 1 for odd.
+pub fn column_fault(players: usize, ones: u32, earlier: &[u8], column: u8) -> Option<u32> {
+    // "18 when a bit at p or above is set"
+    if column >> players != 0 {
+        return Some(refusal::COLUMN_BIT);
+    }
+    // "19 when the parity is wrong"
+    if column.count_ones() % 2 != ones {
+        return Some(refusal::COLUMN_PARITY);
+    }
+    // "20 when the column stood earlier in its array"
+    if earlier.contains(&column) {
+        return Some(refusal::COLUMN_TWICE);
+    }
+    None
+}
+
+/// The first fault of one array, its number and its column. J columns without a fault are all
+/// those of one parity, each exactly once.
+pub fn array_fault(players: usize, ones: u32, array: &[u8]) -> Option<(u32, usize)> {
+    for (column, &bits) in array.iter().enumerate() {
+        if let Some(number) = column_fault(players, ones, &array[..column], bits) {
+            return Some((number, column));
+        }
+    }
+    None
+}
+
+/// "the first fault, scanning row by row and column by column".
+pub fn first_fault(board: &Board, piece_row: usize, arrays: &[u8]) -> Option<Refused> {
+    for (grid_row, array) in arrays.chunks(board.columns()).enumerate() {
+        // "The piece's grid row has an odd array, all others even ones."
+        let ones = u32::from(grid_row == piece_row);
+        if let Some((number, column)) = array_fault(board.players, ones, array) {
+            return Some(Refused {
+                number,
+                place: Some(Place {
+                    grid_row: grid_row as u32,
+                    column: column as u32,
+                }),
+            });
+        }
+    }
+    None
 }
 
 /// A player's mark bytes for an array: "bit i of a column is player i's mark" and "column j is
@@ -93,8 +149,8 @@ pub fn xor_into(target: &mut [u8], other: &[u8]) {
 }
 
 impl Dealing<'_> {
-    /// Refusals 1 to 8, in their order.
-    fn check(&self) -> Result<Board, u32> {
+    /// Refusals 1 to 7, then 18 to 20, in their order.
+    fn check(&self) -> Result<Board, Refused> {
         let board = Board::new(
             self.players,
             self.positions,
@@ -103,7 +159,7 @@ impl Dealing<'_> {
         )?;
         // "6 point ≥ N"
         if self.point >= self.positions {
-            return Err(refusal::POINT);
+            return Err(refusal::POINT.into());
         }
         // "7 a lent input ... of another length"
         let lent = [
@@ -113,19 +169,14 @@ impl Dealing<'_> {
             self.words.len(),
         ];
         if lent != input_lengths(&board) {
-            return Err(refusal::INPUT_LENGTH);
+            return Err(refusal::INPUT_LENGTH.into());
         }
-        // "The piece's grid row has an odd array, all others even ones."
+        // "all take the place of 8"
         let piece_row = board.grid_row_of(self.point as usize);
-        for (grid_row, array) in self.arrays.chunks(board.columns()).enumerate() {
-            let ones = u32::from(grid_row == piece_row);
-            // "8 an array with a bit at p or above, wrong parity for its grid row, or a column
-            // twice"
-            if !is_array(board.players, ones, array) {
-                return Err(refusal::ARRAY);
-            }
+        match first_fault(&board, piece_row, self.arrays) {
+            Some(fault) => Err(fault),
+            None => Ok(board),
         }
-        Ok(board)
     }
 
     /// The seed of a grid row and column: "grid row by grid row, in column order".
@@ -167,12 +218,12 @@ impl Dealing<'_> {
 }
 
 /// **Deal** "writes p keys one after another, player 0 first: 1 to 5; 6 ...; 7 ...; 8 ...; 9
-/// output shorter than p × K."
-pub fn deal(dealing: &Dealing, output: &mut [u8]) -> Result<(), u32> {
+/// output shorter than p × K", with document 02's 18, 19 and 20 in place of 8.
+pub fn deal(dealing: &Dealing, output: &mut [u8]) -> Result<(), Refused> {
     let board = dealing.check()?;
     let key_length = key_bytes(&board);
     if output.len() < board.players * key_length {
-        return Err(refusal::OUTPUT_SHORT);
+        return Err(refusal::OUTPUT_SHORT.into());
     }
     let all_words = dealing.all_words(&board);
     for player in 0..board.players {

@@ -1,12 +1,13 @@
 //! Nosingginger's second implementation: a p-party distributed point function on a
 //! square-root grid, with ChaCha20 rows.
 //!
-//! Written from document 01 alone, without sight of the proved library, so that the two can
-//! be compared. It is plain on purpose: one step for one sentence of the paper, and the
+//! Written from documents 01 and 02 alone, without sight of the proved library, so that the two
+//! can be compared. It is plain on purpose: one step for one sentence of the paper, and the
 //! sentence stands beside the step. It is not made to be fast and it does not hide timing.
 //!
-//! Every operation takes slices and answers `Result<_, u32>`; the `u32` is the paper's
-//! refusal number. On a refusal no lent byte is changed.
+//! Every operation takes slices and answers `Result<_, u32>`; the `u32` is the papers' refusal
+//! number. Deal alone answers [`deal::Refused`], a number that may come with a place. On a
+//! refusal no lent byte is changed.
 //!
 //! | operation of document 01 | here |
 //! |---|---|
@@ -25,7 +26,7 @@
 //! | the joining program | [`programs::joining_program`] |
 //!
 //! [`draw`], [`data`] and [`cases`] make the data of the comparison; they are no part of the
-//! paper.
+//! papers.
 
 pub mod board;
 pub mod cases;

@@ -10,7 +10,7 @@ use std::path::Path;
 use std::process::ExitCode;
 
 const HELP: &str = "\
-Nosingginger's second implementation, written from document 01 alone.
+Nosingginger's second implementation, written from documents 01 and 02 alone.
 
 usage: reference COMMAND
 

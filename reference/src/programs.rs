@@ -55,9 +55,10 @@ fn deal_input(input: &[u8]) -> Result<Vec<u8>, u32> {
         seeds,
         words,
     };
-    // 8, and 9 when the keys do not fit into the most bytes that the program writes
+    // 18 to 20, "the number alone", and 9 when the keys do not fit into the most bytes that the
+    // program writes
     let mut output = vec![0; MOST_BYTES];
-    deal(&dealing, &mut output)?;
+    deal(&dealing, &mut output).map_err(|refused| refused.number)?;
     output.truncate(board.players * key_bytes(&board));
     Ok(output)
 }

@@ -1,4 +1,5 @@
-//! The refusal numbers of document 01, "Operations and what each turns away".
+//! The refusal numbers of document 01, "Operations and what each turns away", and of document 02.
+//! There is no 8: three numbers of document 02 "take the place of 8, which is no longer given".
 
 /// 1: p outside its range.
 pub const PLAYERS: u32 = 1;
@@ -14,8 +15,6 @@ pub const GRID_ROWS: u32 = 5;
 pub const POINT: u32 = 6;
 /// 7: a lent input of another length.
 pub const INPUT_LENGTH: u32 = 7;
-/// 8: an array with a bit at p or above, wrong parity for its grid row, or a column twice.
-pub const ARRAY: u32 = 8;
 /// 9: output too short.
 pub const OUTPUT_SHORT: u32 = 9;
 /// 10: a header number cut short, over three groups or not shortest.
@@ -34,3 +33,9 @@ pub const KEYS_DIFFER: u32 = 15;
 pub const EXPANSION_LONG: u32 = 16;
 /// 17: sensor ≥ 72.
 pub const SENSOR: u32 = 17;
+/// 18: a column with a bit at p or above.
+pub const COLUMN_BIT: u32 = 18;
+/// 19: a column of the wrong parity for its grid row.
+pub const COLUMN_PARITY: u32 = 19;
+/// 20: a column that stood earlier in its array.
+pub const COLUMN_TWICE: u32 = 20;

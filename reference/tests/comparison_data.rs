@@ -1,17 +1,19 @@
 //! The comparison's data: enough of it, the same each time, and right.
 
+use reference::board::Board;
 use reference::cases::{all, BOARDS};
 use reference::data::{
-    read_file, write_file, CHECK_KEY, CHOOSE_WIDTH, DEAL, DEALING_PROGRAM, EXPAND, HELD_SEED,
+    read_file, write_file, Call, CHECK_KEY, CHOOSE_WIDTH, DEAL, DEALING_PROGRAM, EXPAND, HELD_SEED,
     JOINING_PROGRAM, JOIN_KEYS, JOIN_SHARES, KEY_LENGTH, OPEN_ALL, OPEN_ONE, SENSOR_POSITION,
 };
+use reference::deal::{column_fault, first_fault};
 use std::collections::{BTreeMap, BTreeSet};
 use std::fs;
 
 /// Every number that each operation can give, 0 for acceptance.
 const ANSWERS: [(u8, &[u32]); 13] = [
     (KEY_LENGTH, &[0, 1, 2, 3, 4, 5]),
-    (DEAL, &[0, 1, 2, 3, 4, 5, 6, 7, 8, 9]),
+    (DEAL, &[0, 1, 2, 3, 4, 5, 6, 7, 9, 18, 19, 20]),
     (CHECK_KEY, &[0, 1, 2, 3, 4, 5, 10, 11, 12, 13]),
     (OPEN_ONE, &[0, 1, 2, 3, 4, 5, 9, 10, 11, 12, 13, 14]),
     (OPEN_ALL, &[0, 1, 2, 3, 4, 5, 9, 10, 11, 12, 13]),
@@ -21,12 +23,15 @@ const ANSWERS: [(u8, &[u32]); 13] = [
     (EXPAND, &[0, 7, 16]),
     (CHOOSE_WIDTH, &[0, 1, 2]),
     (SENSOR_POSITION, &[0, 17]),
-    (DEALING_PROGRAM, &[0, 1, 2, 3, 4, 5, 6, 7, 8, 9, 10]),
+    (
+        DEALING_PROGRAM,
+        &[0, 1, 2, 3, 4, 5, 6, 7, 9, 10, 18, 19, 20],
+    ),
     (JOINING_PROGRAM, &[0, 1, 2, 3, 4, 5, 9, 10, 11, 12, 13, 15]),
 ];
 
 /// The file's fingerprint, fixed so that every machine makes the same bytes.
-const FINGERPRINT: u64 = 0xC014_4029_8975_F226;
+const FINGERPRINT: u64 = 0x05B5_98AE_B2F5_857E;
 
 /// FNV-1a on 64 bits.
 fn fingerprint(bytes: &[u8]) -> u64 {
@@ -41,8 +46,8 @@ fn the_data_is_enough_and_the_same_each_time() {
     let file = write_file(&cases);
     assert_eq!(write_file(&all()), file);
     // 400 cases or more, in 1.5 MiB or less: the figures of FORMAT.md.
-    assert_eq!(cases.len(), 2_332);
-    assert_eq!(file.len(), 1_468_864);
+    assert_eq!(cases.len(), 2_615);
+    assert_eq!(file.len(), 1_570_060);
     assert_eq!(fingerprint(&file), FINGERPRINT);
     // Every answer that an operation can give, and no other.
     let mut met: BTreeMap<u8, BTreeSet<u32>> = BTreeMap::new();
@@ -61,6 +66,96 @@ fn the_data_is_enough_and_the_same_each_time() {
     for case in &read {
         assert_eq!(case.call.answer(), case.answer);
     }
+}
+
+/// The board of a call of Deal, if it is one.
+fn board_of(call: &Call) -> Option<Board> {
+    let [players, positions, grid_width, value_width, _] = call.numbers;
+    Board::new(players, positions, grid_width, value_width).ok()
+}
+
+/// How many columns of a call of Deal have a fault.
+fn faults_of(call: &Call, board: &Board) -> usize {
+    let piece_row = board.grid_row_of(call.numbers[4] as usize);
+    let arrays = call.inputs[1].chunks(board.columns()).enumerate();
+    arrays
+        .map(|(row, array)| {
+            let ones = u32::from(row == piece_row);
+            let wrong =
+                |at: &usize| column_fault(board.players, ones, &array[..*at], array[*at]).is_some();
+            (0..array.len()).filter(wrong).count()
+        })
+        .sum()
+}
+
+/// Each of 18, 19 and 20 stands alone at the first and the last column of the first and the last
+/// grid row for every p, and is given before other faults, in the odd array and in even ones, with
+/// an output and without.
+#[test]
+fn every_fault_of_arrays_stands_at_every_end() {
+    let mut met = BTreeSet::new();
+    for case in all() {
+        let (number, results) = (case.answer.refusal, case.answer.results);
+        if case.call.operation != DEAL || !(18..=20).contains(&number) {
+            continue;
+        }
+        let board = board_of(&case.call).expect("1 to 5 come first");
+        let [has_place, grid_row, column, ..] = results.map(|number| number as usize);
+        assert_eq!((has_place, &results[3..]), (1, &[0; 2][..]));
+        assert!(grid_row < board.grid_rows() && column < board.columns());
+        let ends = |place: usize, least: usize, last: usize| {
+            [(place == least, "first"), (place == last, "last")]
+        };
+        // 20 cannot stand at column 0.
+        let least = usize::from(number == 20);
+        assert!(column >= least);
+        let alone = faults_of(&case.call, &board) == 1;
+        let odd = grid_row == board.grid_row_of(case.call.numbers[4] as usize);
+        let mut meet =
+            |what: &str| met.insert(format!("{} players, {number} {what}", board.players));
+        for (at_row, row) in ends(grid_row, 0, board.grid_rows() - 1) {
+            for (at_column, column) in ends(column, least, board.columns() - 1) {
+                if alone && board.grid_rows() > 1 && at_row && at_column {
+                    meet(&format!("alone in the {row} grid row's {column} column"));
+                }
+            }
+        }
+        meet(if alone { "alone" } else { "before others" });
+        meet(if odd {
+            "in the odd array"
+        } else {
+            "in an even one"
+        });
+        meet(if case.call.lent == 0 {
+            "before 9"
+        } else {
+            "with an output"
+        });
+    }
+    assert_eq!(met.len(), 5 * 3 * (4 + 2 + 2 + 2), "{met:#?}");
+}
+
+/// Every other answer of Deal has no place; 7 is given before each of 18, 19 and 20.
+#[test]
+fn no_other_answer_of_deal_has_a_place() {
+    let mut behind_7 = BTreeSet::new();
+    for case in all() {
+        let number = case.answer.refusal;
+        if case.call.operation != DEAL || (18..=20).contains(&number) {
+            continue;
+        }
+        assert_eq!(case.answer.results, [0; 5]);
+        let Some(board) = board_of(&case.call) else {
+            continue;
+        };
+        let arrays = &case.call.inputs[1];
+        if number == 7 && arrays.len() == board.grid_rows() * board.columns() {
+            let piece_row = board.grid_row_of(case.call.numbers[4] as usize);
+            let fault = first_fault(&board, piece_row, arrays);
+            behind_7.extend(fault.map(|refused| refused.number));
+        }
+    }
+    assert_eq!(behind_7, BTreeSet::from([18, 19, 20]));
 }
 
 #[test]

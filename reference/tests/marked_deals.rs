@@ -1,6 +1,6 @@
 //! Document 01, "Marked deals", line by line, and the numbers of "Bytes of a key".
 
-use reference::deal::{is_array, last_word, mark_bytes};
+use reference::deal::{array_fault, last_word, mark_bytes};
 use reference::key::key_length;
 use reference::numbers::{groups, Reader};
 use reference::open::share_at_cell;
@@ -12,13 +12,13 @@ const ODD: u32 = 1;
 
 #[test]
 fn even_and_odd_arrays_of_three_players() {
-    assert!(is_array(3, EVEN, &[0, 3, 5, 6]));
-    assert!(!is_array(3, ODD, &[0, 3, 5, 6]));
-    assert!(is_array(3, ODD, &[1, 2, 4, 7]));
-    assert!(!is_array(3, EVEN, &[1, 2, 4, 7]));
-    for neither in [[0, 3, 5, 5], [0, 3, 5, 7], [0, 3, 5, 8]] {
-        assert!(!is_array(3, EVEN, &neither));
-        assert!(!is_array(3, ODD, &neither));
+    assert_eq!(array_fault(3, EVEN, &[0, 3, 5, 6]), None);
+    assert_eq!(array_fault(3, ODD, &[0, 3, 5, 6]), Some((19, 0)));
+    assert_eq!(array_fault(3, ODD, &[1, 2, 4, 7]), None);
+    assert_eq!(array_fault(3, EVEN, &[1, 2, 4, 7]), Some((19, 0)));
+    for (number, neither) in [(20, [0, 3, 5, 5]), (19, [0, 3, 5, 7]), (18, [0, 3, 5, 8])] {
+        assert_eq!(array_fault(3, EVEN, &neither), Some((number, 3)));
+        assert_eq!(array_fault(3, ODD, &neither), Some((19, 0)));
     }
 }
 

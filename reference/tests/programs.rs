@@ -147,15 +147,24 @@ fn the_dealing_programs_refusals_in_their_order() {
     dealt(&right[..5], "refused 7\n");
     dealt(&right[..141], "refused 7\n");
     dealt(&[&right[..], &[0]].concat(), "refused 7\n");
-    // A bad array in an input that is too long is 7.
-    let mut wrong = right.clone();
-    wrong[6] = 1;
-    dealt(&[&wrong[..], &[0]].concat(), "refused 7\n");
-    dealt(&wrong, "refused 8\n");
+    // A bad array in an input that is too long is 7, else "the number alone".
+    for (arrays, line) in [
+        ([1, 3, 1, 2], "refused 19\n"),
+        ([0, 7, 1, 2], "refused 18\n"),
+        ([0, 0, 4, 2], "refused 20\n"),
+        ([0, 3, 1, 0xFF], "refused 18\n"),
+        ([0, 3, 1, 3], "refused 19\n"),
+        ([0, 3, 2, 2], "refused 20\n"),
+    ] {
+        let mut wrong = right.clone();
+        wrong[6..10].copy_from_slice(&arrays);
+        dealt(&[&wrong[..], &[0]].concat(), "refused 7\n");
+        dealt(&wrong, line);
+    }
     // The point moved to the other grid row: both arrays have the wrong parity.
     let mut moved = right.clone();
     moved[4] = 3;
-    dealt(&moved, "refused 8\n");
+    dealt(&moved, "refused 19\n");
 }
 
 #[test]
@@ -165,9 +174,17 @@ fn the_dealing_programs_limits() {
     let mut input = input_of(&long);
     assert_eq!(input.len(), 64_566);
     dealt(&input, "refused 9\n");
-    // 8 comes before 9, 7 before 8.
-    input[6 + 16] ^= 1;
-    dealt(&input, "refused 8\n");
+    // 18, 19 and 20 come before 9, 7 before these: the first array's second column changed.
+    let array = 6 + 16;
+    let right = input[array + 1];
+    for (column, line) in [
+        (right | 0x40, "refused 18\n"),
+        (right ^ 1, "refused 19\n"),
+        (input[array], "refused 20\n"),
+    ] {
+        input[array + 1] = column;
+        dealt(&input, line);
+    }
     input.push(0);
     dealt(&input, "refused 7\n");
     input.resize(65_537, 0);

@@ -4,7 +4,7 @@
 
 use reference::board::Board;
 use reference::chacha::expand;
-use reference::deal::{deal, Dealing};
+use reference::deal::{deal, Dealing, Place, Refused};
 use reference::draw::{Drawn, Generator};
 use reference::join::{join_keys, join_shares};
 use reference::key::{check_key, held_seed, key_length, Header};
@@ -15,11 +15,11 @@ const FILL: u8 = 0xC3;
 
 /// Runs an operation on a lent output, and sees that it writes `written` bytes, or none when
 /// it refuses.
-fn on_output(
+fn on_output<Refusal>(
     lent: usize,
     written: usize,
-    operation: impl Fn(&mut [u8]) -> Result<(), u32>,
-) -> Result<Vec<u8>, u32> {
+    operation: impl Fn(&mut [u8]) -> Result<(), Refusal>,
+) -> Result<Vec<u8>, Refusal> {
     let mut output = vec![FILL; lent];
     match operation(&mut output) {
         Ok(()) => {
@@ -27,10 +27,29 @@ fn on_output(
             output.truncate(written);
             Ok(output)
         }
-        Err(number) => {
+        Err(refusal) => {
             assert!(output.iter().all(|&byte| byte == FILL));
-            Err(number)
+            Err(refusal)
         }
+    }
+}
+
+/// Deal's refusals without a place.
+fn placeless(number: u32) -> Result<Vec<u8>, Refused> {
+    Err(Refused {
+        number,
+        place: None,
+    })
+}
+
+/// Deal's refusals with one.
+fn placed(number: u32, grid_row: usize, column: usize) -> Refused {
+    Refused {
+        number,
+        place: Some(Place {
+            grid_row: grid_row as u32,
+            column: column as u32,
+        }),
     }
 }
 
@@ -102,10 +121,16 @@ fn deal_gives_the_first_number() {
     assert_eq!(run(right, dealt.len()), Ok(dealt.clone()));
     assert_eq!(run(right, dealt.len() + 9), Ok(dealt.clone()));
     let mut dealing = right;
-    assert_eq!(run(dealing, dealt.len() - 1), Err(9));
+    assert_eq!(run(dealing, dealt.len() - 1), placeless(9));
     let wrong_arrays: Vec<u8> = drawn.arrays.iter().map(|column| column ^ 1).collect();
     dealing.arrays = &wrong_arrays;
-    assert_eq!(run(dealing, 0), Err(8));
+    assert_eq!(run(dealing, 0).unwrap_err(), placed(19, 0, 0));
+    let twice_arrays = [&drawn.arrays[..3], &drawn.arrays[..9]].concat();
+    dealing.arrays = &twice_arrays;
+    assert_eq!(run(dealing, 0).unwrap_err(), placed(20, 0, 3));
+    let no_player_arrays = [0xFF; 12];
+    dealing.arrays = &no_player_arrays;
+    assert_eq!(run(dealing, 0).unwrap_err(), placed(18, 0, 0));
     for shorter in 0..4 {
         let mut cut = dealing;
         match shorter {
@@ -114,45 +139,56 @@ fn deal_gives_the_first_number() {
             2 => cut.seeds = &drawn.seeds[1..],
             _ => cut.words = &drawn.words[1..],
         }
-        assert_eq!(run(cut, 0), Err(7));
+        assert_eq!(run(cut, 0), placeless(7));
     }
     dealing.seeds = &[];
-    assert_eq!(run(dealing, 0), Err(7));
+    assert_eq!(run(dealing, 0), placeless(7));
     dealing.point = 7;
-    assert_eq!(run(dealing, 0), Err(6));
+    assert_eq!(run(dealing, 0), placeless(6));
     dealing.point = u32::MAX;
-    assert_eq!(run(dealing, 0), Err(6));
+    assert_eq!(run(dealing, 0), placeless(6));
     dealing.positions = 65_536;
     dealing.grid_width = 1;
-    assert_eq!(run(dealing, 0), Err(5));
+    assert_eq!(run(dealing, 0), placeless(5));
     dealing.value_width = 0;
-    assert_eq!(run(dealing, 0), Err(4));
+    assert_eq!(run(dealing, 0), placeless(4));
     dealing.grid_width = 0;
-    assert_eq!(run(dealing, 0), Err(3));
+    assert_eq!(run(dealing, 0), placeless(3));
     dealing.positions = 0;
-    assert_eq!(run(dealing, 0), Err(2));
+    assert_eq!(run(dealing, 0), placeless(2));
     dealing.players = 7;
-    assert_eq!(run(dealing, 0), Err(1));
+    assert_eq!(run(dealing, 0), placeless(1));
 }
 
-/// 8: every one-byte change of the arrays is turned away, and so is every swap of two arrays
-/// that moves the odd one.
+/// Every one-byte change of the arrays is refused at its place, or where the column that it makes
+/// stood anyhow, if that is later; and so is a point in another grid row, where the parity is wrong
+/// in its own and in the one that it left.
 #[test]
 fn every_changed_array_is_refused() {
     for players in 2..=6 {
         let drawn = drawn([players, 5, 2, 1], u64::from(players));
+        let columns = drawn.board.columns();
+        let piece_row = drawn.point as usize / 2;
         let dealt = drawn.keys().concat().len();
-        for place in 0..drawn.arrays.len() {
-            for column in 0..=255 {
+        for changed in 0..drawn.arrays.len() {
+            let (row, column) = (changed / columns, changed % columns);
+            let array = &drawn.arrays[row * columns..][..columns];
+            for bits in 0..=255u8 {
                 let mut arrays = drawn.arrays.clone();
-                arrays[place] = column;
+                arrays[changed] = bits;
                 let dealing = Dealing {
                     arrays: &arrays,
                     ..drawn.dealing()
                 };
                 let answer = on_output(dealt, dealt, |output| deal(&dealing, output));
-                let own = column == drawn.arrays[place];
-                assert_eq!(answer.err(), if own { None } else { Some(8) });
+                // A column of the right bits and parity stood in the array already.
+                let expected = match array.iter().position(|&own| own == bits) {
+                    Some(own) if own == column => None,
+                    Some(own) => Some(placed(20, row, own.max(column))),
+                    None if bits >= 1 << players => Some(placed(18, row, column)),
+                    None => Some(placed(19, row, column)),
+                };
+                assert_eq!(answer.err(), expected);
             }
         }
         for point in 0..5 {
@@ -161,8 +197,10 @@ fn every_changed_array_is_refused() {
                 ..drawn.dealing()
             };
             let answer = on_output(dealt, dealt, |output| deal(&dealing, output));
-            let same_row = point / 2 == drawn.point / 2;
-            assert_eq!(answer.err(), if same_row { None } else { Some(8) });
+            let row = point as usize / 2;
+            let same_row = row == piece_row;
+            let expected = (!same_row).then(|| placed(19, row.min(piece_row), 0));
+            assert_eq!(answer.err(), expected);
         }
     }
 }

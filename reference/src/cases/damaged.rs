@@ -27,12 +27,13 @@ pub fn add(maker: &mut Maker, board: Board) {
     joined(maker, board, &keys);
 }
 
-/// Deal's refusals 1 to 9, each alone and then with all that come after it.
+/// Deal's refusals 1 to 7 and 9, each alone and then with all that come after it; `arrays` has
+/// those between.
 fn dealings(maker: &mut Maker, drawn: &Drawn) {
     let board = drawn.board;
     let dealt = board.players * key_bytes(&board);
     let right = deal_numbers(drawn);
-    let [players, positions, grid_width, value_width, _] = right;
+    let [players, _, grid_width, value_width, _] = right;
 
     let mut add_numbers = |refusal, numbers: [u32; 5], lent| {
         let mut call = deal_call(drawn, lent);
@@ -66,21 +67,6 @@ fn dealings(maker: &mut Maker, drawn: &Drawn) {
         add_numbers(refusal, numbers, 0);
     }
     input_lengths(maker, drawn, dealt);
-    for arrays in wrong_arrays(maker, drawn) {
-        let wrong = Drawn {
-            arrays,
-            ..drawn.clone()
-        };
-        maker.add(8, deal_call(&wrong, dealt));
-        maker.add(8, deal_call(&wrong, 0));
-        // The same with the point out of its range, and with a seed byte missing.
-        let mut call = deal_call(&wrong, 0);
-        call.numbers[4] = positions;
-        maker.add(6, call);
-        let mut call = deal_call(&wrong, 0);
-        call.inputs[2].pop();
-        maker.add(7, call);
-    }
     maker.add(9, deal_call(drawn, dealt - 1));
     maker.add(9, deal_call(drawn, 0));
     // Another point of the same grid row is a dealing as good.
@@ -115,36 +101,6 @@ fn input_lengths(maker: &mut Maker, drawn: &Drawn, dealt: usize) {
     let moved = call.inputs[2].pop().expect("seeds are lent");
     call.inputs[3].insert(0, moved);
     maker.add(7, call);
-}
-
-/// 8: a bit at p or above, wrong parity, a column twice; in the first and the last grid row.
-fn wrong_arrays(maker: &mut Maker, drawn: &Drawn) -> Vec<Vec<u8>> {
-    let board = drawn.board;
-    let columns = board.columns();
-    let mut wrong = Vec::new();
-    let mut change = |place: usize, column: u8| {
-        let mut arrays = drawn.arrays.clone();
-        assert_ne!(arrays[place], column);
-        arrays[place] = column;
-        wrong.push(arrays);
-    };
-    let last = drawn.arrays.len() - 1;
-    let drawn_place = maker.generator.below(drawn.arrays.len());
-    // Two bits at p or above keep the parity.
-    change(0, drawn.arrays[0] ^ 0xC0);
-    change(last, drawn.arrays[last] ^ 1 << board.players);
-    change(drawn_place, drawn.arrays[drawn_place] ^ 1);
-    change(0, drawn.arrays[columns - 1]);
-    change(last, drawn.arrays[last - 1]);
-    // Every array of the other parity.
-    wrong.push(drawn.arrays.iter().map(|column| column ^ 1).collect());
-    // A right array of the wrong parity for one grid row.
-    let mut arrays = drawn.arrays.clone();
-    for column in &mut arrays[last + 1 - columns..] {
-        *column ^= 2;
-    }
-    wrong.push(arrays);
-    wrong
 }
 
 /// The dealing program: 10, and then as Deal.
@@ -183,7 +139,7 @@ fn dealing_program(maker: &mut Maker, drawn: &Drawn) {
     wrong.arrays[0] ^= 1;
     let wrong_array = program_input(&[p, n, m, w, a], &wrong);
     faults.push((7, [&wrong_array[..], &[0]].concat()));
-    faults.push((8, wrong_array));
+    faults.push((19, wrong_array));
     for (refusal, input) in faults {
         maker.add(refusal, bytes_call(DEALING_PROGRAM, &[], &input, 0));
     }

@@ -1,8 +1,9 @@
 //! Which cases the comparison's data has. Each case that is made to be refused names the
-//! number that document 01 asks for, and making it fails when this implementation answers
-//! another.
+//! number that documents 01 and 02 ask for, and the place where it has one, and making it fails
+//! when this implementation answers another.
 
 mod accepted;
+mod arrays;
 mod damaged;
 mod limits;
 mod plain;
@@ -10,6 +11,7 @@ pub mod programs;
 
 use crate::board::Board;
 use crate::data::{Answer, Call, Case};
+use crate::deal::Place;
 use crate::draw::{Drawn, Generator};
 use crate::key::header_of;
 use crate::numbers::groups;
@@ -66,6 +68,7 @@ pub fn all() -> Vec<Case> {
     for numbers in DAMAGED_BOARDS {
         damaged::add(&mut maker, board(numbers));
     }
+    arrays::add(&mut maker);
     limits::add(&mut maker);
     maker.cases
 }
@@ -77,11 +80,20 @@ struct Maker {
 }
 
 impl Maker {
-    /// Adds a call that is refused with this number, or accepted when it is 0.
+    /// Adds a call that is refused with this number, which has no place, or accepted when it is
+    /// 0.
     fn add(&mut self, refusal: u32, call: Call) -> Answer {
         let answer = self.add_any(call);
         assert_eq!(answer.refusal, refusal, "case {}", self.cases.len());
+        assert!(refusal == 0 || answer.results == [0; 5]);
         answer
+    }
+
+    /// Adds a call of Deal that is refused with this number at this place.
+    fn add_fault(&mut self, refusal: u32, place: Place, call: Call) {
+        let answer = self.add_any(call);
+        assert_eq!(answer.refusal, refusal, "case {}", self.cases.len());
+        assert_eq!(answer.results, [1, place.grid_row, place.column, 0, 0]);
     }
 
     /// Adds a call with any answer.

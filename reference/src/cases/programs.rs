@@ -1,7 +1,7 @@
 //! The cases of the two programs, for `crates/test_programs`: files with what a program reads
 //! and what it writes, and a list that says which belong together. A file may stand in several
 //! cases: keys that are dealt in one are joined in the next. Each case that is made to be
-//! refused names document 01's number, and making it fails when this implementation answers
+//! refused names the documents' number, and making it fails when this implementation answers
 //! another. A refused input has the later faults too where it can, so that the order is seen.
 
 use super::{board, deal_numbers, in_groups, program_input};
@@ -203,20 +203,25 @@ impl Maker {
             self.fault(Deal, refusal, name, [&header, lent].concat());
         }
         self.fault(Deal, 6, "point-is-positions", in_groups(&[2, 6, 4, 1, 6]));
-        // 7 comes before 8: the first array is wrong too.
+        // 7 comes before 19: the first array is wrong too.
         let mut longer = [right, &[0]].concat();
         longer[6] = 1;
         let shorter = longer[..right.len() - 1].to_vec();
         self.fault(Deal, 7, "byte-missing", shorter);
         self.fault(Deal, 7, "byte-too-many", longer);
-        for (name, arrays) in [
-            ("bit-above-players", [0x0C, 3, 1, 2]),
-            ("odd-array-elsewhere", [1, 2, 1, 2]),
-            ("even-array-at-point", [0, 3, 3, 0]),
-            ("column-twice", [0, 3, 1, 1]),
+        for (refusal, name, arrays) in [
+            (18, "bit-above-players", [0x0C, 3, 1, 2]),
+            (18, "all-bits", [0xFF; 4]),
+            (19, "odd-array-elsewhere", [1, 2, 1, 2]),
+            (19, "even-array-at-point", [0, 3, 3, 0]),
+            (20, "column-twice", [0, 3, 1, 1]),
+            // The first fault by its place, whatever the numbers of the others.
+            (19, "parity-before-bit", [0, 1, 4, 2]),
+            (20, "twice-before-bit", [3, 3, 5, 2]),
+            (20, "twice-before-parity", [0, 0, 0, 3]),
         ] {
             let dealing = [numbers, &right[5..6], &arrays, &right[10..]].concat();
-            self.fault(Deal, 8, name, dealing);
+            self.fault(Deal, refusal, name, dealing);
         }
     }
 
@@ -303,7 +308,7 @@ impl Maker {
         assert_eq!(input.len(), 65_536);
         self.fault(Deal, 9, "input-65536", input);
         // The next point takes two groups and stands in another grid row: they are one more, with
-        // two arrays wrong, and 7 comes before 8.
+        // two arrays wrong, and 7 comes before 19.
         let input = dealing_of(&Drawn {
             point: 128,
             ..drawn
@@ -313,12 +318,12 @@ impl Maker {
         // Read as a key its value width is the point: the header's own number before 12.
         self.refused(Join, 4, "input-65537.dealing");
 
-        // Keys of two bytes more than the limit. 8 comes before 9.
+        // Keys of two bytes more than the limit. 20 comes before 9.
         let mut drawn = self.drawn((6, 1_569, 196, 1), 1_000);
         let mut keys = drawn.keys();
         self.fault(Deal, 9, "output-65538", dealing_of(&drawn));
         drawn.arrays.swap(0, 32);
-        self.fault(Deal, 8, "output-65538-arrays-mixed", dealing_of(&drawn));
+        self.fault(Deal, 20, "output-65538-arrays-mixed", dealing_of(&drawn));
         // Joined they are 12, before the last key's 13.
         let header = in_groups(&[6, 5, 1_569, 196, 1]).len();
         keys[5][header..header + 4].fill(0);
