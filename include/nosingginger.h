@@ -18,8 +18,8 @@
    What holds of every call
      - It returns NSG_ACCEPTED, or the first refusal number that fits, in the order that is given at the function. (nsg_held_seed alone has
        no refusal numbers.) Numbers and bytes may be of any kind: no call is undefined by what they say.
-     - A refused call leaves every lent byte as it was, outputs too. An accepted call writes exactly the bytes named, from the output's first
-       on; bytes of the output past those keep what they had.
+     - A refused call leaves every lent byte as it was, outputs too. The one exception is `fault`, in which nsg_deal says where a bad column
+       stands. An accepted call writes exactly the bytes named, from the output's first on; bytes of the output past those keep what they had.
      - Bytes are lent as a pointer and a length in bytes. Lengths are uint64_t on all targets, 32-bit ones too.
      - NO POINTER MAY BE NULL, not even with length 0. For an empty slice pass any valid pointer that is not NULL, and length 0.
      - The bytes written must not overlap other bytes lent to the same call: an output or a uint32_t result that shares memory with an
@@ -34,7 +34,9 @@
    archive for x86-64, under valgrind's memcheck and on boards of 2 to 6 players with rows of 4 to 4,096 bytes, none depends on the value, a
    seed, a word or a share, in any call. They do depend
      - in nsg_deal on the arrays, which say whose the seeds are, and on the point: on its grid row, and on its cell by the address at which
-       the value is put. Who can watch branches or addresses while a board deals can learn where the piece is;
+       the value is put. Who can watch branches or addresses while a board deals can learn where the piece is. With a
+       deal that is refused for a column (18, 19, 20) the number and `fault` can tell the point's grid row too: they are for the board's
+       maker, and not for players;
      - in the calls that take a key on its header and its marks, and on the position, grid row or column that is asked for.
    Every call may depend on its numbers and lengths. Instructions whose own time depends on what they work on were not looked at, nor
    other targets.
@@ -53,7 +55,7 @@ extern "C" {
 #endif
 
 /* The version, which `pkg-config --modversion nosingginger` tells too. */
-#define NSG_VERSION "0.1.0"
+#define NSG_VERSION "0.2.0"
 
 /* THE BOUNDS. */
 #define NSG_LEAST_PLAYERS 2u
@@ -67,6 +69,7 @@ extern "C" {
 #define NSG_MOST_EXPANDED_BYTES 4096u   /* what nsg_expand fills at most: the longest row there is */
 #define NSG_SENSORS 72u                 /* of the spring board, nine lines of eight squares */
 #define NSG_HEADER_NUMBERS 5u           /* what nsg_check_key gives */
+#define NSG_FAULT_NUMBERS 2u            /* what nsg_deal gives of a bad column */
 
 /* Stack that a call may need: a thread with this much to spare is enough. Measured on x86-64 Linux nsg_open_one takes 5.6 KiB and every
    other call less than 1.9; the tests measure every call and fail above this figure. A board with less to spare measures its own build. */
@@ -87,24 +90,26 @@ extern "C" {
 
 /* WHAT A CALL RETURNS, and what each number means. A program that shows numbers to people has their names and words from the header beside
    this one, nosingginger_words.h. */
-#define NSG_ACCEPTED 0u             /* the call did what it says */
-#define NSG_REFUSED_PLAYERS 1u      /* the number of players is not 2 to 6 */
-#define NSG_REFUSED_POSITIONS 2u    /* the number of positions is not 1 to 65,536 */
-#define NSG_REFUSED_WIDTH 3u        /* the grid's width is not 1 to 256 */
-#define NSG_REFUSED_VALUE_BYTES 4u  /* a value's width is not 1 to 16 bytes */
-#define NSG_REFUSED_GRID_ROWS 5u    /* the board has more than 256 grid rows at this width */
-#define NSG_REFUSED_POINT 6u        /* the piece's point is none of the board's positions */
-#define NSG_REFUSED_LENT 7u         /* an input does not have the length that the numbers ask for */
-#define NSG_REFUSED_ARRAYS 8u       /* an array has a bit of no player, the wrong parity for its grid row, or a column twice */
-#define NSG_REFUSED_ROOM 9u         /* the output is too short for what is to be written */
-#define NSG_REFUSED_NUMBER 10u      /* a key's header has a number that is cut short, over three groups or not in its shortest form */
-#define NSG_REFUSED_PLAYER 11u      /* a key's player is not below its number of players */
-#define NSG_REFUSED_LENGTH 12u      /* a key, or all keys together, do not have the length that the header asks for */
-#define NSG_REFUSED_MARKS 13u       /* a key marks another number of columns than half in some grid row, or has a spare bit set */
-#define NSG_REFUSED_POSITION 14u    /* the position is none of the board's */
-#define NSG_REFUSED_PLACE 15u       /* a key is of another board than the first, or not of the player whose place it stands in */
-#define NSG_REFUSED_EXPANSION 16u   /* more than 4,096 bytes are asked of a seed */
-#define NSG_REFUSED_SENSOR 17u      /* the sensor is none of the spring board's 72 */
+#define NSG_ACCEPTED 0u               /* the call did what it says */
+#define NSG_REFUSED_PLAYERS 1u        /* the number of players is not 2 to 6 */
+#define NSG_REFUSED_POSITIONS 2u      /* the number of positions is not 1 to 65,536 */
+#define NSG_REFUSED_WIDTH 3u          /* the grid's width is not 1 to 256 */
+#define NSG_REFUSED_VALUE_BYTES 4u    /* a value's width is not 1 to 16 bytes */
+#define NSG_REFUSED_GRID_ROWS 5u      /* the board has more than 256 grid rows at this width */
+#define NSG_REFUSED_POINT 6u          /* the piece's point is none of the board's positions */
+#define NSG_REFUSED_LENT 7u           /* an input does not have the length that the numbers ask for */
+#define NSG_REFUSED_ROOM 9u           /* the output is too short for what is to be written */
+#define NSG_REFUSED_NUMBER 10u        /* a key's header has a number that is cut short, over three groups or not in its shortest form */
+#define NSG_REFUSED_PLAYER 11u        /* a key's player is not below its number of players */
+#define NSG_REFUSED_LENGTH 12u        /* a key, or all keys together, do not have the length that the header asks for */
+#define NSG_REFUSED_MARKS 13u         /* a key marks another number of columns than half in some grid row, or has a spare bit set */
+#define NSG_REFUSED_POSITION 14u      /* the position is none of the board's */
+#define NSG_REFUSED_PLACE 15u         /* a key is of another board than the first, or not of the player whose place it stands in */
+#define NSG_REFUSED_EXPANSION 16u     /* more than 4,096 bytes are asked of a seed */
+#define NSG_REFUSED_SENSOR 17u        /* the sensor is none of the spring board's 72 */
+#define NSG_REFUSED_COLUMN_BIT 18u    /* an array's column has a bit of no player */
+#define NSG_REFUSED_COLUMN_PARITY 19u /* an array's column has the wrong parity for its grid row */
+#define NSG_REFUSED_COLUMN_TWICE 20u  /* an array's column stood earlier in its array */
 
 /* ---- THE BOARD: what its numbers ask for, before anything is dealt. ---- */
 
@@ -133,12 +138,20 @@ uint32_t nsg_sensor_position(uint32_t sensor, uint32_t *position);
      seeds    NSG_SEEDS_BYTES: 32 random bytes for each grid row and column, grid row by grid row. Never used for another deal.
      words    NSG_WORDS_BYTES: random bytes, a word of width * value_bytes for each column but the last.
      keys     the output, of players * K bytes or more.
-   Refusals, in this order: 1, 2, 3, 4, 5; 6 point; 7 value, arrays, seeds or words of another length than said above; 8 arrays; 9 keys too short.
-   The caller wipes point, value, arrays, seeds and words after the call: together they tell where the piece is. */
+     fault    where the first bad column stands: fault[0] its grid row, fault[1] its column in that grid row, both from 0. Written where the
+              answer is 18, 19 or 20, and left alone otherwise, by an accepted call too.
+   Refusals, in this order: 1, 2, 3, 4, 5; 6 point; 7 value, arrays, seeds or words of another length than said above; 18, 19 or 20 the first
+   bad column; 9 keys too short.
+   The first bad column is that of the lowest grid row, and in it the lowest: the byte arrays[fault[0] * NSG_COLUMNS(players) + fault[1]].
+   Its number is the first of these that fits:
+     18       it has a bit at `players` or above, which is no player's;
+     19       its count of ones is even in the point's grid row, or odd in another one;
+     20       the same column stood earlier in its array. So the second of two is the bad one.
+   The caller wipes point, value, arrays, seeds and words after the call, refused or not: together they tell where the piece is. */
 uint32_t nsg_deal(uint32_t players, uint32_t positions, uint32_t width, uint32_t value_bytes, uint32_t point,
                   const uint8_t *value, uint64_t value_length, const uint8_t *arrays, uint64_t arrays_length,
                   const uint8_t *seeds, uint64_t seeds_length, const uint8_t *words, uint64_t words_length,
-                  uint8_t *keys, uint64_t keys_length);
+                  uint8_t *keys, uint64_t keys_length, uint32_t fault[2]);
 
 /* ---- KEYS: what a key says of itself. ---- */
 

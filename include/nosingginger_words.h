@@ -20,7 +20,6 @@ static inline const char *nsg_refusal_name(uint32_t number)
     case NSG_REFUSED_GRID_ROWS: return "REFUSED_GRID_ROWS";
     case NSG_REFUSED_POINT: return "REFUSED_POINT";
     case NSG_REFUSED_LENT: return "REFUSED_LENT";
-    case NSG_REFUSED_ARRAYS: return "REFUSED_ARRAYS";
     case NSG_REFUSED_ROOM: return "REFUSED_ROOM";
     case NSG_REFUSED_NUMBER: return "REFUSED_NUMBER";
     case NSG_REFUSED_PLAYER: return "REFUSED_PLAYER";
@@ -30,6 +29,9 @@ static inline const char *nsg_refusal_name(uint32_t number)
     case NSG_REFUSED_PLACE: return "REFUSED_PLACE";
     case NSG_REFUSED_EXPANSION: return "REFUSED_EXPANSION";
     case NSG_REFUSED_SENSOR: return "REFUSED_SENSOR";
+    case NSG_REFUSED_COLUMN_BIT: return "REFUSED_COLUMN_BIT";
+    case NSG_REFUSED_COLUMN_PARITY: return "REFUSED_COLUMN_PARITY";
+    case NSG_REFUSED_COLUMN_TWICE: return "REFUSED_COLUMN_TWICE";
     default: return "REFUSED";
     }
 }
@@ -46,7 +48,6 @@ static inline const char *nsg_refusal_words(uint32_t number)
     case NSG_REFUSED_GRID_ROWS: return "the board has more than 256 grid rows at this width";
     case NSG_REFUSED_POINT: return "the piece's point is none of the board's positions";
     case NSG_REFUSED_LENT: return "an input does not have the length that the numbers ask for";
-    case NSG_REFUSED_ARRAYS: return "an array has a bit of no player, the wrong parity for its grid row, or a column twice";
     case NSG_REFUSED_ROOM: return "the output is too short for what is to be written";
     case NSG_REFUSED_NUMBER: return "a key's header has a number that is cut short, over three groups or not in its shortest form";
     case NSG_REFUSED_PLAYER: return "a key's player is not below its number of players";
@@ -56,6 +57,9 @@ static inline const char *nsg_refusal_words(uint32_t number)
     case NSG_REFUSED_PLACE: return "a key is of another board than the first, or not of the player whose place it stands in";
     case NSG_REFUSED_EXPANSION: return "more than 4,096 bytes are asked of a seed";
     case NSG_REFUSED_SENSOR: return "the sensor is none of the spring board's 72";
+    case NSG_REFUSED_COLUMN_BIT: return "an array's column has a bit of no player";
+    case NSG_REFUSED_COLUMN_PARITY: return "an array's column has the wrong parity for its grid row";
+    case NSG_REFUSED_COLUMN_TWICE: return "an array's column stood earlier in its array";
     default: return "a number that is not known here";
     }
 }

@@ -44,12 +44,23 @@ pub struct Header {
 /// The library's answer as a result. The proved library gives 0 and the numbers of refusals alone; an archive that gives another is not this
 /// crate's, and what it did is not known. So this stops, rather than call it accepted or refused.
 #[expect(clippy::panic, reason = "the crate's only one, and the README names it")]
-fn answered(number: u32) -> Result<(), Refusal> {
-    match Refusal::from_number(number) {
+fn judged(number: u32, refusal: Option<Refusal>) -> Result<(), Refusal> {
+    match refusal {
         Some(refusal) => Err(refusal),
         None if number == 0 => Ok(()),
         None => panic!("the archive is not this crate's: it gave the number {number}"),
     }
+}
+
+/// The answer of a call that gives no place.
+fn answered(number: u32) -> Result<(), Refusal> {
+    judged(number, Refusal::from_number(number, None))
+}
+
+/// The answer of a call that says where a bad column stands, with the numbers that have a place.
+fn answered_at(number: u32, [grid_row, column]: [u32; raw::FAULT_NUMBERS]) -> Result<(), Refusal> {
+    let placed = || Refusal::from_number(number, Some((grid_row, column)));
+    judged(number, Refusal::from_number(number, None).or_else(placed))
 }
 
 /// A slice as the library takes it.
@@ -84,10 +95,25 @@ pub fn key_length(board: Board) -> Result<u32, Refusal> {
 
 /// **Deal**: writes the keys of all players one after another, player 0 first. That takes [`Board::keys_len`] bytes.
 ///
-/// The caller wipes point, value, arrays, seeds and words after the call: together they tell where the piece is.
+/// The caller wipes point, value, arrays, seeds and words after the call, refused or not: together they tell where the piece is.
 ///
-/// Refuses as [`key_length`], then [`Point`](Refusal::Point), [`Lent`](Refusal::Lent), [`Arrays`](Refusal::Arrays),
-/// [`Room`](Refusal::Room).
+/// Refuses as [`key_length`], then [`Point`](Refusal::Point), [`Lent`](Refusal::Lent), then the first bad column of the arrays, grid row by
+/// grid row and column by column, then [`Room`](Refusal::Room). A column is refused with [`ColumnBit`](Refusal::ColumnBit) for a bit at
+/// players or above, else with [`ColumnParity`](Refusal::ColumnParity) for a count of ones that is even in the point's grid row or odd in
+/// another, else with [`ColumnTwice`](Refusal::ColumnTwice) where it stood earlier in its array. The refusal says where, and can tell the
+/// point's grid row with it: it is for the board's maker, not for players.
+///
+/// ```
+/// # use nosingginger::{deal, Board, Dealing, Refusal};
+/// // Three players and two grid rows. The piece stands in the second, whose array has the column 8, though players mark only 1, 2 and 4.
+/// let board = Board { players: 3, positions: 4, width: 2, value_bytes: 1 };
+/// let arrays = [0, 3, 5, 6, 1, 8, 1, 2];
+/// let (seeds, words) = (vec![0; board.seeds_len()?], vec![0; board.words_len()?]);
+/// let mut keys = vec![0; board.keys_len()?];
+/// let refused = deal(&Dealing { board, point: 2, value: &[0xA5], arrays: &arrays, seeds: &seeds, words: &words }, &mut keys);
+/// assert_eq!(refused, Err(Refusal::ColumnBit { grid_row: 1, column: 1 }));
+/// # Ok::<(), Refusal>(())
+/// ```
 pub fn deal(dealing: &Dealing<'_>, keys: &mut [u8]) -> Result<(), Refusal> {
     let board = dealing.board;
     let (value, value_length) = lent(dealing.value);
@@ -95,7 +121,8 @@ pub fn deal(dealing: &Dealing<'_>, keys: &mut [u8]) -> Result<(), Refusal> {
     let (seeds, seeds_length) = lent(dealing.seeds);
     let (words, words_length) = lent(dealing.words);
     let (keys, keys_length) = lent_out(keys);
-    answered(unsafe {
+    let mut fault = [0; raw::FAULT_NUMBERS];
+    let number = unsafe {
         raw::nsg_deal(
             board.players,
             board.positions,
@@ -112,8 +139,10 @@ pub fn deal(dealing: &Dealing<'_>, keys: &mut [u8]) -> Result<(), Refusal> {
             words_length,
             keys,
             keys_length,
+            &mut fault,
         )
-    })
+    };
+    answered_at(number, fault)
 }
 
 /// **Check key**: the header's numbers of a key that can be opened.

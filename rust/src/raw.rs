@@ -1,16 +1,20 @@
 //! The C functions of the archive as they are, for callers that hold pointers. `include/nosingginger.h` is their full description.
 //!
 //! A slice is a pointer and a length in bytes. No pointer may be null, that of an empty slice too. Bytes that a function reads must not
-//! overlap those that it writes. Each answers 0 or the number of a refusal, but for [`nsg_held_seed`].
+//! overlap those that it writes. Each answers 0 or the number of a refusal, but for [`nsg_held_seed`]. `Refusal::from_number` makes a
+//! [`Refusal`](crate::Refusal) of it.
 
 /// How many numbers [`nsg_check_key`] gives.
 pub const HEADER_NUMBERS: usize = 5;
+
+/// How many numbers [`nsg_deal`] gives of a bad column.
+pub const FAULT_NUMBERS: usize = 2;
 
 extern "C" {
     /// [`key_length`](crate::key_length); the length goes to `length`.
     pub fn nsg_key_length(players: u32, positions: u32, width: u32, value_bytes: u32, length: *mut u32) -> u32;
 
-    /// [`deal`](crate::deal).
+    /// [`deal`](crate::deal); the grid row and the column of the first bad column go to `fault`, where the answer is 18, 19 or 20.
     pub fn nsg_deal(
         players: u32,
         positions: u32,
@@ -27,6 +31,7 @@ extern "C" {
         words_length: u64,
         keys: *mut u8,
         keys_length: u64,
+        fault: *mut [u32; FAULT_NUMBERS],
     ) -> u32;
 
     /// [`check_key`](crate::check_key); players, player, positions, width and value bytes go to `header`.

@@ -3,33 +3,74 @@
 use core::error::Error;
 use core::fmt;
 
-/// Writes the refusals and what is said of them from one list, a line for each: number, variant, name, words.
+/// A refusal's place, made of its fields or taken apart into them; none where it has none.
+macro_rules! place {
+    () => {
+        None
+    };
+    ($grid_row:ident $column:ident) => {
+        Some(($grid_row, $column))
+    };
+}
+
+/// Writes the refusals and what is said of them from one list, a line for each: number, variant, its place if it has one, name, words.
 macro_rules! refusals {
-    ($($number:literal $variant:ident $name:literal $words:literal)*) => {
+    ($($number:literal $variant:ident $({ $grid_row:ident, $column:ident })? $name:literal $words:literal)*) => {
         /// Why a call was refused: the first of these that fits, in the order that each function names.
         /// A later version may have more.
         #[derive(Clone, Copy, Debug, PartialEq, Eq, Hash, PartialOrd, Ord)]
         #[non_exhaustive]
-        #[repr(u32)]
         pub enum Refusal {
-            $(#[doc = concat!($number, ": ", $words, ".")] $variant = $number,)*
+            $(
+                #[doc = concat!($number, ": ", $words, ".")]
+                $variant $({
+                    /// The column's grid row, from 0.
+                    $grid_row: u32,
+                    /// The column in its grid row's array, from 0.
+                    $column: u32,
+                })?,
+            )*
         }
 
         impl Refusal {
-            /// All refusals; that of number n stands at place n − 1.
-            pub const ALL: [Refusal; [$($number),*].len()] = [$(Refusal::$variant),*];
+            /// Number, name and words of every refusal, in the order of the numbers. There is none of number 8.
+            pub const LIST: [(u32, &'static str, &'static str); [$($number),*].len()] = [$(($number, concat!("REFUSED_", $name), $words)),*];
+
+            /// The refusal's number, which is the same in every language.
+            pub const fn number(self) -> u32 {
+                match self {
+                    $(Refusal::$variant { .. } => $number,)*
+                }
+            }
 
             /// The refusal's name, which is the same in every language, as `REFUSED_LENGTH`; C's macros put `NSG_` before it.
             pub const fn name(self) -> &'static str {
                 match self {
-                    $(Refusal::$variant => concat!("REFUSED_", $name),)*
+                    $(Refusal::$variant { .. } => concat!("REFUSED_", $name),)*
                 }
             }
 
-            /// The refusal in words, as [`Display`](fmt::Display) gives it.
+            /// The refusal in words. [`Display`](fmt::Display) gives them too, and the place behind them.
             pub const fn words(self) -> &'static str {
                 match self {
-                    $(Refusal::$variant => $words,)*
+                    $(Refusal::$variant { .. } => $words,)*
+                }
+            }
+
+            /// Grid row and column of the bad column, for the refusals that have them: those of a dealing's arrays. It is the byte
+            /// grid row × [`columns`](crate::Board::columns) + column of [`Dealing::arrays`](crate::Dealing::arrays).
+            pub const fn place(self) -> Option<(u32, u32)> {
+                match self {
+                    $(Refusal::$variant $({ $grid_row, $column })? => place!($($grid_row $column)?),)*
+                }
+            }
+
+            /// The refusal of a number and a place, if there is one. A refusal that has a place is not made without it, nor another with
+            /// one.
+            pub const fn from_number(number: u32, place: Option<(u32, u32)>) -> Option<Refusal> {
+                match (number, place) {
+                    $(($number, place!($($grid_row $column)?)) => Some(Refusal::$variant $({ $grid_row, $column })?),)*
+                    _ => None,
                 }
             }
         }
@@ -44,7 +85,6 @@ refusals! {
     5 GridRows "GRID_ROWS" "the board has more than 256 grid rows at this width"
     6 Point "POINT" "the piece's point is none of the board's positions"
     7 Lent "LENT" "an input does not have the length that the numbers ask for"
-    8 Arrays "ARRAYS" "an array has a bit of no player, the wrong parity for its grid row, or a column twice"
     9 Room "ROOM" "the output is too short for what is to be written"
     10 Number "NUMBER" "a key's header has a number that is cut short, over three groups or not in its shortest form"
     11 Player "PLAYER" "a key's player is not below its number of players"
@@ -54,25 +94,19 @@ refusals! {
     15 Place "PLACE" "a key is of another board than the first, or not of the player whose place it stands in"
     16 Expansion "EXPANSION" "more than 4,096 bytes are asked of a seed"
     17 Sensor "SENSOR" "the sensor is none of the spring board's 72"
-}
-
-impl Refusal {
-    /// The refusal's number, from 1 on.
-    pub const fn number(self) -> u32 {
-        self as u32
-    }
-
-    /// The refusal of a number, if it is one.
-    pub fn from_number(number: u32) -> Option<Refusal> {
-        let place = number.checked_sub(1)? as usize;
-        Refusal::ALL.get(place).copied()
-    }
+    18 ColumnBit { grid_row, column } "COLUMN_BIT" "an array's column has a bit of no player"
+    19 ColumnParity { grid_row, column } "COLUMN_PARITY" "an array's column has the wrong parity for its grid row"
+    20 ColumnTwice { grid_row, column } "COLUMN_TWICE" "an array's column stood earlier in its array"
 }
 
 impl fmt::Display for Refusal {
-    /// The refusal in words.
+    /// The refusal in words, and its place behind them if it has one: "… (grid row 3, column 5)". A width is the words' own.
     fn fmt(&self, formatter: &mut fmt::Formatter<'_>) -> fmt::Result {
-        formatter.pad(self.words())
+        formatter.pad(self.words())?;
+        match self.place() {
+            Some((grid_row, column)) => write!(formatter, " (grid row {grid_row}, column {column})"),
+            None => Ok(()),
+        }
     }
 }
 
