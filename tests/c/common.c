@@ -44,6 +44,17 @@ struct lent lend(const uint8_t *bytes, uint64_t length)
     return lent;
 }
 
+struct lent lend_fault(void)
+{
+    return lend_filled(0xD8, NSG_FAULT_NUMBERS * sizeof(uint32_t));
+}
+
+int tells(const struct lent *fault, uint32_t grid_row, uint32_t column)
+{
+    const uint32_t place[NSG_FAULT_NUMBERS] = {grid_row, column};
+    return memcmp(fault->bytes, place, sizeof place) == 0;
+}
+
 int untouched_past(const struct lent *lent, uint64_t written)
 {
     return memcmp(lent->bytes + written, lent->before + written, (size_t)(lent->length - written)) == 0;
@@ -123,11 +134,11 @@ struct draw draw_dealing(struct board board, uint32_t point)
     return draw;
 }
 
-uint32_t deal(const struct draw *draw, struct lent *keys)
+uint32_t deal(const struct draw *draw, struct lent *keys, struct lent *fault)
 {
     return nsg_deal(draw->board.players, draw->board.positions, draw->board.width, draw->board.value_bytes, draw->point,
                     draw->value.bytes, draw->value.length, draw->arrays.bytes, draw->arrays.length, draw->seeds.bytes, draw->seeds.length,
-                    draw->words.bytes, draw->words.length, keys->bytes, keys->length);
+                    draw->words.bytes, draw->words.length, keys->bytes, keys->length, (uint32_t *)(void *)fault->bytes);
 }
 
 void give_back_draw(struct draw *draw)
@@ -147,8 +158,10 @@ uint32_t key_length(struct board board)
 
 struct lent dealt_keys(const struct draw *draw)
 {
-    struct lent keys = lend_filled(0xEE, (uint64_t)draw->board.players * key_length(draw->board));
-    CHECK(deal(draw, &keys) == NSG_ACCEPTED);
+    struct lent keys = lend_filled(0xEE, (uint64_t)draw->board.players * key_length(draw->board)), fault = lend_fault();
+    CHECK(deal(draw, &keys, &fault) == NSG_ACCEPTED);
+    CHECK(untouched(&fault));
     memcpy(keys.before, keys.bytes, (size_t)keys.length);
+    give_back(&fault);
     return keys;
 }

@@ -17,6 +17,7 @@ struct lent {
 };
 struct lent lend(const uint8_t *bytes, uint64_t length);
 struct lent lend_filled(uint8_t fill, uint64_t length);
+struct lent lend_fault(void);                      /* room for what nsg_deal tells of a bad column, filled */
 int untouched(const struct lent *lent);            /* all bytes are as they were lent */
 int untouched_past(const struct lent *lent, uint64_t written);   /* those behind the first `written` are */
 void give_back(struct lent *lent);
@@ -36,10 +37,11 @@ struct draw {
     struct lent value, arrays, seeds, words;
 };
 struct draw draw_dealing(struct board board, uint32_t point);
-uint32_t deal(const struct draw *draw, struct lent *keys);
+uint32_t deal(const struct draw *draw, struct lent *keys, struct lent *fault);
+int tells(const struct lent *fault, uint32_t grid_row, uint32_t column);   /* whether nsg_deal told this place */
 void give_back_draw(struct draw *draw);
 uint32_t key_length(struct board board);           /* of a board that is accepted */
-struct lent dealt_keys(const struct draw *draw);   /* the keys of a dealing that is accepted */
+struct lent dealt_keys(const struct draw *draw);   /* the keys of a dealing that is accepted, and tells no place */
 
 /* The parts of the test. */
 void test_operations(void);

@@ -1,10 +1,14 @@
-// The header in C++, and the archive behind it: the spring board's key length for four players.
+// The header in C++, and the archive behind it: the spring board's key length for four players, and the place of a column that stands twice.
 #include <nosingginger.h>
 
 int main()
 {
-    uint32_t length = 0;
-    if (nsg_key_length(4, NSG_SENSORS, 24, 1, &length) != NSG_ACCEPTED)
+    const uint8_t value = 1, arrays[2] = {2, 2}, seeds[2 * NSG_SEED_BYTES] = {}, word = 3;
+    uint8_t keys[200];
+    uint32_t length = 0, fault[NSG_FAULT_NUMBERS] = {7, 7};
+    if (nsg_key_length(4, NSG_SENSORS, 24, 1, &length) != NSG_ACCEPTED || length != 584)
         return 1;
-    return length != 584;
+    if (nsg_deal(2, 1, 1, 1, 0, &value, 1, arrays, 2, seeds, sizeof seeds, &word, 1, keys, sizeof keys, fault) != NSG_REFUSED_COLUMN_TWICE)
+        return 1;
+    return fault[0] != 0 || fault[1] != 1;
 }

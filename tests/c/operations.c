@@ -31,12 +31,14 @@ static void test_printed_deal(void)
     static const uint8_t joined[6] = {0, 0, 0, 0, 0xA5, 0};
     const uint8_t value = 0xA5;
     uint8_t seeds[128], wanted[158], keys[158 + SPARE], table[6 + SPARE];
+    uint32_t fault[NSG_FAULT_NUMBERS] = {77, 78};
     for (int i = 0; i < 128; i++)
         seeds[i] = (uint8_t)i;
     for (uint8_t player = 0; player < 2; player++)
         printed_key(player, marks[player], held[player], wanted + 79 * player);
     memset(keys, FILL, sizeof keys);
-    CHECK(nsg_deal(2, 6, 4, 1, 4, &value, 1, printed_arrays, 4, seeds, 128, printed_words, 4, keys, sizeof keys) == NSG_ACCEPTED);
+    CHECK(nsg_deal(2, 6, 4, 1, 4, &value, 1, printed_arrays, 4, seeds, 128, printed_words, 4, keys, sizeof keys, fault) == NSG_ACCEPTED);
+    CHECK(fault[0] == 77 && fault[1] == 78);
     CHECK(memcmp(keys, wanted, 158) == 0);
     CHECK(keys[158] == FILL && keys[158 + SPARE - 1] == FILL);
     memset(table, FILL, sizeof table);

@@ -1,19 +1,19 @@
-/* Every refusal of every function: the number, every lent byte as it was, and the first number where several fit. Each function's numbers
-   are listed, and one that was never met fails. */
+/* Every refusal of every function: the number, every lent byte as it was, and the first number where several fit. Of Deal's bad columns the place
+   too, which is the one thing that a refused call writes. Each function's numbers are listed, and one that was never met fails. */
 #include "common.h"
 #include <stdio.h>
 #include <string.h>
 
 enum function { KEY_LENGTH, DEAL, CHECK_KEY, OPEN_ONE, OPEN_ALL, JOIN_SHARES, JOIN_KEYS, EXPAND, CHOOSE_WIDTH, SENSOR_POSITION, FUNCTIONS };
-enum { NUMBERS = 18, FILL = 0x5C };
+enum { NUMBERS = 21, FILL = 0x5C };
 
 static const char *const names[FUNCTIONS] = {"nsg_key_length", "nsg_deal", "nsg_check_key", "nsg_open_one", "nsg_open_all",
                                              "nsg_join_shares", "nsg_join_keys", "nsg_expand", "nsg_choose_width", "nsg_sensor_position"};
 
-/* Document 01: which numbers each operation gives. A row ends with 0. */
+/* Document 01, and request (i) for Deal: which numbers each operation gives. A row ends with 0. */
 static const uint8_t given[FUNCTIONS][NUMBERS] = {
     {1, 2, 3, 4, 5},
-    {1, 2, 3, 4, 5, 6, 7, 8, 9},
+    {1, 2, 3, 4, 5, 6, 7, 9, 18, 19, 20},
     {1, 2, 3, 4, 5, 10, 11, 12, 13},
     {1, 2, 3, 4, 5, 9, 10, 11, 12, 13, 14},
     {1, 2, 3, 4, 5, 9, 10, 11, 12, 13},
@@ -71,13 +71,34 @@ static void test_numbers_refused(void)
     CHECK(number == 0xDEADBEEF);
 }
 
-/* A call of Deal that is refused, with all that was lent to it as it was. */
+static int untouched_draw(const struct draw *draw)
+{
+    return untouched(&draw->value) && untouched(&draw->arrays) && untouched(&draw->seeds) && untouched(&draw->words);
+}
+
+/* A call of Deal that is refused for no column, with all that was lent to it as it was, the fault's place too. */
 static void refuse_deal(const struct draw *draw, uint64_t room, uint32_t wanted)
 {
-    struct lent keys = lend_filled(FILL, room);
-    expect(DEAL, deal(draw, &keys), wanted);
-    CHECK(untouched(&keys) && untouched(&draw->value) && untouched(&draw->arrays) && untouched(&draw->seeds) && untouched(&draw->words));
+    struct lent keys = lend_filled(FILL, room), fault = lend_fault();
+    expect(DEAL, deal(draw, &keys, &fault), wanted);
+    CHECK(untouched(&fault) && untouched(&keys) && untouched_draw(draw));
+    give_back(&fault);
     give_back(&keys);
+}
+
+/* A call of Deal that is refused for the column at this byte of the arrays: the place is told, and all else is as it was. Whether the keys have
+   room does not matter. */
+static void refuse_column(const struct draw *draw, uint32_t wanted, uint32_t at)
+{
+    const uint32_t columns = NSG_COLUMNS(draw->board.players);
+    for (uint64_t room = 0; room <= 1; room++) {
+        struct lent keys = lend_filled(FILL, room * draw->board.players * key_length(draw->board)), fault = lend_fault();
+        expect(DEAL, deal(draw, &keys, &fault), wanted);
+        CHECK(tells(&fault, at / columns, at % columns));
+        CHECK(untouched(&keys) && untouched_draw(draw));
+        give_back(&fault);
+        give_back(&keys);
+    }
 }
 
 /* Deal with one input a byte shorter or longer than it should be. */
@@ -95,26 +116,96 @@ static void refuse_deal_lengths(struct draw *draw, uint64_t room)
     }
 }
 
-/* Deal with one array spoiled at the byte `place`. */
-static void refuse_deal_array(struct draw *draw, uint32_t place, uint8_t column, uint64_t room)
+/* Puts a column into the arrays, at one byte. */
+static void put_column(struct draw *draw, uint32_t at, unsigned column)
 {
-    uint8_t right = draw->arrays.bytes[place];
-    draw->arrays.bytes[place] = draw->arrays.before[place] = column;
-    refuse_deal(draw, room, NSG_REFUSED_ARRAYS);
-    draw->arrays.bytes[place] = draw->arrays.before[place] = right;
+    draw->arrays.bytes[at] = draw->arrays.before[at] = (uint8_t)column;
 }
 
-/* The calls in which everything from number `first` on is wrong: that number alone is given. */
+/* Spoils one column so that Deal refuses it with this number. 20 repeats the column before it. */
+static void spoil(struct draw *draw, uint32_t at, uint32_t number)
+{
+    const uint8_t *right = draw->arrays.bytes + at;
+    put_column(draw, at, number == NSG_REFUSED_COLUMN_BIT ? *right ^ 0x80u : number == NSG_REFUSED_COLUMN_PARITY ? *right ^ 1u : right[-1]);
+}
+
+/* Every column of a dealing spoiled in every way, one at a time. */
+static void refuse_each_column(struct draw *draw)
+{
+    const uint32_t players = draw->board.players, columns = NSG_COLUMNS(players);
+    for (uint32_t at = 0; at < draw->arrays.length; at++) {
+        const uint8_t right = draw->arrays.bytes[at];
+        const uint32_t array = at - at % columns;
+        for (uint32_t bit = players; bit < 8; bit++) {
+            put_column(draw, at, right ^ 1u << bit);   /* its parity is wrong too: that comes later */
+            refuse_column(draw, NSG_REFUSED_COLUMN_BIT, at);
+            put_column(draw, at, right ^ 1u << bit ^ 1u);
+            refuse_column(draw, NSG_REFUSED_COLUMN_BIT, at);
+        }
+        for (uint32_t bit = 0; bit < players; bit++) {
+            put_column(draw, at, right ^ 1u << bit);
+            refuse_column(draw, NSG_REFUSED_COLUMN_PARITY, at);
+        }
+        for (uint32_t other = array; other < array + columns; other++)
+            if (other != at) {
+                put_column(draw, at, draw->arrays.bytes[other]);
+                refuse_column(draw, NSG_REFUSED_COLUMN_TWICE, other < at ? at : other);   /* the second of the two */
+            }
+        put_column(draw, at, right);
+    }
+}
+
+/* Two columns spoiled, each in every way: the first is told, whatever the second is. */
+static void refuse_two_columns(struct draw *draw)
+{
+    const uint32_t columns = NSG_COLUMNS(draw->board.players), length = (uint32_t)draw->arrays.length;
+    for (uint32_t first = 0; first < length; first++)
+        for (uint32_t second = first + 1; second < length; second++)
+            for (uint32_t one = NSG_REFUSED_COLUMN_BIT; one <= NSG_REFUSED_COLUMN_TWICE; one++)
+                for (uint32_t other = NSG_REFUSED_COLUMN_BIT; other <= NSG_REFUSED_COLUMN_TWICE; other++) {
+                    const uint8_t right[2] = {draw->arrays.bytes[first], draw->arrays.bytes[second]};
+                    if ((one == NSG_REFUSED_COLUMN_TWICE && first % columns == 0) || (other == NSG_REFUSED_COLUMN_TWICE && second % columns == 0))
+                        continue;   /* no column stands before it */
+                    spoil(draw, second, other);
+                    spoil(draw, first, one);
+                    refuse_column(draw, one, first);
+                    put_column(draw, first, right[0]);
+                    put_column(draw, second, right[1]);
+                }
+}
+
+/* Bad columns on boards of three grid rows, with the point in each; the first and the last column of the first and the last grid row are among them. */
+static void test_columns_refused(void)
+{
+    static const uint8_t several[4] = {1, 8, 1, 2};   /* an odd array: 8 is no player's, 1 stands twice and 4 is not there */
+    for (uint32_t players = NSG_LEAST_PLAYERS; players <= NSG_MOST_PLAYERS; players++)
+        for (uint32_t point = 0; point < 5; point += 2) {
+            struct draw draw = draw_dealing((struct board){players, 5, 2, 1}, point);
+            refuse_each_column(&draw);
+            if (players <= 3)
+                refuse_two_columns(&draw);
+            for (draw.point = 0; draw.point < 5; draw.point++)
+                if (draw.point / 2 != point / 2)   /* another grid row's array is odd: the first of the two is told */
+                    refuse_column(&draw, NSG_REFUSED_COLUMN_PARITY, (draw.point < point ? draw.point : point) / 2 * NSG_COLUMNS(players));
+            draw.point = point;
+            if (players == 3) {
+                for (uint32_t column = 0; column < 4; column++)
+                    put_column(&draw, point / 2 * 4 + column, several[column]);
+                refuse_column(&draw, NSG_REFUSED_COLUMN_BIT, point / 2 * 4 + 1);
+            }
+            give_back_draw(&draw);
+        }
+}
+
+/* The calls in which everything from number `first` on is wrong, 1 to 7, and then columns and room: that number alone is given. */
 static void refuse_deal_order(uint32_t first)
 {
     struct draw draw = draw_dealing((struct board){3, 10, 4, 2}, 9);
     uint64_t room = 3 * key_length(draw.board) - 1;
-    if (first <= 8)
-        draw.arrays.bytes[0] = draw.arrays.before[0] = 0xFF;
-    if (first <= 7) {
-        give_back(&draw.value);
-        draw.value = lend_filled(FILL, 0);
-    }
+    for (uint32_t number = NSG_REFUSED_COLUMN_BIT; number <= NSG_REFUSED_COLUMN_TWICE; number++)
+        spoil(&draw, number - NSG_REFUSED_COLUMN_BIT, number);
+    give_back(&draw.value);
+    draw.value = lend_filled(FILL, 0);
     if (first <= 6)
         draw.point = UINT32_MAX;
     if (first == 5)
@@ -135,21 +226,16 @@ static void test_deal_refused(void)
 {
     struct draw draw = draw_dealing((struct board){4, 72, 24, 1}, 30);
     const uint64_t room = 4 * key_length(draw.board);
-    for (uint32_t first = 1; first <= 9; first++)
+    for (uint32_t first = 1; first <= 7; first++)
         refuse_deal_order(first);
     draw.point = 72;
     refuse_deal(&draw, room, NSG_REFUSED_POINT);
     draw.point = 30;
     refuse_deal_lengths(&draw, room);
-    refuse_deal_array(&draw, 3, (uint8_t)(draw.arrays.bytes[3] | 0x30), room);   /* bits of no player, parity right */
-    refuse_deal_array(&draw, 0, (uint8_t)(draw.arrays.bytes[0] ^ 1), room);      /* the wrong parity */
-    refuse_deal_array(&draw, 23, draw.arrays.bytes[16], room);                   /* a column twice: parity right */
-    draw.point = 60;                                                             /* an odd array in a grid row that is not the point's */
-    refuse_deal(&draw, room, NSG_REFUSED_ARRAYS);
-    draw.point = 30;
     refuse_deal(&draw, room - 1, NSG_REFUSED_ROOM);
     refuse_deal(&draw, 0, NSG_REFUSED_ROOM);
     give_back_draw(&draw);
+    test_columns_refused();
 }
 
 /* How a key is damaged: its length, a place, and the bytes written there; and the number that Check key gives. */

@@ -125,6 +125,26 @@ static void test_key(struct board board, const struct lent *key, const uint8_t *
     give_back(&wanted);
 }
 
+/* Deals that are refused for a column: the first of the first grid row or the last of the last, spoiled in each way. `keys` have no room. */
+static void test_columns(struct draw *draw, struct lent *keys)
+{
+    const uint32_t columns = NSG_COLUMNS(draw->board.players), last_row = NSG_GRID_ROWS(draw->board.positions, draw->board.width) - 1;
+    uint8_t *const first = draw->arrays.bytes, *const last = first + draw->arrays.length - 1, right[2] = {*first, *last};
+    struct lent fault = lend_fault();
+    *last = last[-1];
+    CHECK(quietly(deal(draw, keys, &fault), NSG_REFUSED_COLUMN_TWICE));
+    CHECK(quietly(tells(&fault, last_row, columns - 1), 1));
+    *last = right[1] ^ 1;
+    CHECK(quietly(deal(draw, keys, &fault), NSG_REFUSED_COLUMN_PARITY));
+    CHECK(quietly(tells(&fault, last_row, columns - 1), 1));
+    *first = right[0] | 0x80;
+    CHECK(quietly(deal(draw, keys, &fault), NSG_REFUSED_COLUMN_BIT));
+    CHECK(quietly(tells(&fault, 0, 0), 1));
+    *first = right[0];
+    *last = right[1];
+    give_back(&fault);
+}
+
 /* One dealing with its secrets marked, through every call that takes something of it. */
 static void test_dealing(struct board board, uint32_t point)
 {
@@ -132,12 +152,13 @@ static void test_dealing(struct board board, uint32_t point)
     struct draw draw = draw_dealing(board, point);
     struct lent known = dealt_keys(&draw), keys = lend_filled(FILL, known.length), bits = key_bits(board, DEFINED, DEFINED, UNDEFINED);
     struct lent joined = lend_filled(0, NSG_TABLE_BYTES(board.positions, width)), table = lend_filled(FILL, joined.length), tables[NSG_MOST_PLAYERS];
+    struct lent fault = lend_fault();
     memcpy(joined.bytes + point * width, draw.value.bytes, width);
     hide(draw.value.bytes, draw.value.length);
     hide(draw.seeds.bytes, draw.seeds.length);
     hide(draw.words.bytes, draw.words.length);
 
-    CHECK(quietly(deal(&draw, &keys), NSG_ACCEPTED));
+    CHECK(quietly(deal(&draw, &keys, &fault), NSG_ACCEPTED));
     CHECK(secret(draw.value.bytes, draw.value.length, undefined, draw.value.before));
     CHECK(secret(draw.seeds.bytes, draw.seeds.length, undefined, draw.seeds.before));
     CHECK(secret(draw.words.bytes, draw.words.length, undefined, draw.words.before));
@@ -163,11 +184,12 @@ static void test_dealing(struct board board, uint32_t point)
     CHECK(quietly(nsg_join_keys(keys.bytes, keys.length, table.bytes, table.length - 1), NSG_REFUSED_ROOM));
     keys.length--;
     CHECK(quietly(nsg_join_keys(keys.bytes, keys.length, table.bytes, table.length), NSG_REFUSED_LENGTH));
-    CHECK(quietly(deal(&draw, &keys), NSG_REFUSED_ROOM));
-    draw.arrays.bytes[0] ^= 1;
-    CHECK(quietly(deal(&draw, &keys), NSG_REFUSED_ARRAYS));
+    CHECK(quietly(deal(&draw, &keys, &fault), NSG_REFUSED_ROOM));
+    CHECK(quietly(untouched(&fault), 1));
+    test_columns(&draw, &keys);
     for (uint32_t player = 0; player < board.players; player++)
         give_back(&tables[player]);
+    give_back(&fault);
     give_back(&table);
     give_back(&joined);
     give_back(&bits);
@@ -198,22 +220,23 @@ static void test_key_depends(struct board board, const struct lent *known, struc
 static void test_depends(struct board board, uint32_t point)
 {
     struct draw draw = draw_dealing(board, point);
-    struct lent known = dealt_keys(&draw), keys = lend(known.bytes, known.length), share = lend_filled(FILL, board.value_bytes);
+    struct lent known = dealt_keys(&draw), keys = lend(known.bytes, known.length), share = lend_filled(FILL, board.value_bytes), fault = lend_fault();
     const uint32_t length = key_length(board);
     uint32_t number = 0;
     hide(draw.arrays.bytes, draw.arrays.length);
-    CHECK(reported(deal(&draw, &keys)));
+    CHECK(reported(deal(&draw, &keys, &fault)));
     show(draw.arrays.bytes, draw.arrays.length);
     hide(&draw.point, sizeof draw.point);
-    CHECK(reported(deal(&draw, &keys)));
+    CHECK(reported(deal(&draw, &keys, &fault)));
     show(&draw.point, sizeof draw.point);
-    CHECK(quietly(deal(&draw, &keys), NSG_ACCEPTED));
+    CHECK(quietly(deal(&draw, &keys, &fault), NSG_ACCEPTED));
     test_key_depends(board, &known, key_bits(board, UNDEFINED, DEFINED, DEFINED));
     test_key_depends(board, &known, key_bits(board, DEFINED, UNDEFINED, DEFINED));
     hide(&number, sizeof number);   /* still 0: a position, a grid row, a column */
     CHECK(reported(nsg_open_one(known.bytes, length, number, share.bytes, share.length)));
     CHECK(reported(nsg_held_seed(known.bytes, length, number, 0)));
     CHECK(reported(nsg_held_seed(known.bytes, length, 0, number)));
+    give_back(&fault);
     give_back(&share);
     give_back(&keys);
     give_back(&known);

@@ -13,12 +13,12 @@ static ucontext_t outside, inside;
 
 /* What the calls work on: the largest rows and the most columns that there are, and a joined table that is not too long. */
 static struct draw draw;
-static struct lent keys, table;
+static struct lent keys, table, fault;
 static uint32_t length, number, header[NSG_HEADER_NUMBERS], answer;
 
 static void call_nothing(void) { answer = NSG_ACCEPTED; }
 static void call_key_length(void) { answer = nsg_key_length(6, 1024, 256, 16, &number); }
-static void call_deal(void) { answer = deal(&draw, &keys); }
+static void call_deal(void) { answer = deal(&draw, &keys, &fault); }
 static void call_check_key(void) { answer = nsg_check_key(keys.bytes, length, header); }
 static void call_open_one(void) { answer = nsg_open_one(keys.bytes, length, 1023, table.bytes, table.length); }
 static void call_open_all(void) { answer = nsg_open_all(keys.bytes, length, table.bytes, table.length); }
@@ -61,6 +61,7 @@ int main(void)
     length = key_length(draw.board);
     keys = dealt_keys(&draw);
     table = lend_filled(0, 1024 * 16);
+    fault = lend_fault();
     for (unsigned i = 0; i < sizeof calls / sizeof calls[0]; i++) {
         unsigned used = used_by(calls[i].call) - nothing;
         CHECK(answer == NSG_ACCEPTED);
@@ -69,6 +70,7 @@ int main(void)
         printf("stack: %-20s %6u bytes\n", calls[i].name, used);
     }
     printf("stack: at most %u bytes, %u allowed; %lu checks, %lu failed\n", most, NSG_STACK_BYTES, checks_made, checks_failed);
+    give_back(&fault);
     give_back(&table);
     give_back(&keys);
     give_back_draw(&draw);

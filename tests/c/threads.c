@@ -1,4 +1,4 @@
-/* Several threads at once, on the same inputs: each gets the bytes that one thread alone gets. */
+/* Several threads at once, on the same inputs: each gets the bytes that one thread alone gets, and where a column is bad its place. */
 #define _POSIX_C_SOURCE 200112L
 #include "common.h"
 #include <pthread.h>
@@ -9,6 +9,7 @@ enum { THREADS = 8, ROUNDS = 12, BOARDS = 4 };
 
 static struct draw draws[BOARDS];
 static struct lent keys[BOARDS], tables[BOARDS], joined[BOARDS];   /* as one thread alone got them */
+static struct lent spoiled[BOARDS];                                /* arrays whose last column stands twice */
 static pthread_barrier_t start;
 
 struct work {
@@ -29,20 +30,36 @@ static unsigned squares_differing(unsigned i, uint64_t length)
     return differing;
 }
 
+/* A deal that is refused for its last column: how many answers, places and bytes differ. */
+static unsigned refusals_differing(unsigned i, struct lent *own)
+{
+    struct draw draw = draws[i];
+    struct lent fault = lend_fault();
+    draw.arrays = spoiled[i];
+    unsigned differing = deal(&draw, own, &fault) != NSG_REFUSED_COLUMN_TWICE;
+    differing += !tells(&fault, NSG_GRID_ROWS(draw.board.positions, draw.board.width) - 1, NSG_COLUMNS(draw.board.players) - 1);
+    differing += !untouched(own);
+    give_back(&fault);
+    return differing;
+}
+
 /* One board: deals, opens player 0's table and squares of it, joins; counts answers and bytes that differ. */
 static unsigned differences(unsigned i)
 {
     const struct board board = draws[i].board;
     struct lent own = lend_filled(0, keys[i].length), table = lend_filled(0, tables[i].length), whole = lend_filled(0, joined[i].length);
+    struct lent fault = lend_fault();
     uint64_t length = keys[i].length / board.players;
-    unsigned differing = deal(&draws[i], &own) != NSG_ACCEPTED;
-    differing += memcmp(own.bytes, keys[i].bytes, (size_t)own.length) != 0;
+    unsigned differing = refusals_differing(i, &own);
+    differing += deal(&draws[i], &own, &fault) != NSG_ACCEPTED;
+    differing += memcmp(own.bytes, keys[i].bytes, (size_t)own.length) != 0 || !untouched(&fault);
     differing += nsg_open_all(keys[i].bytes, length, table.bytes, table.length) != NSG_ACCEPTED;
     differing += memcmp(table.bytes, tables[i].bytes, (size_t)table.length) != 0;
     differing += squares_differing(i, length);
     differing += nsg_join_keys(keys[i].bytes, keys[i].length, whole.bytes, whole.length) != NSG_ACCEPTED;
     differing += memcmp(whole.bytes, joined[i].bytes, (size_t)whole.length) != 0;
     differing += nsg_open_all(keys[i].bytes, length - 1, table.bytes, table.length) != NSG_REFUSED_LENGTH;
+    give_back(&fault);
     give_back(&own);
     give_back(&table);
     give_back(&whole);
@@ -65,6 +82,8 @@ void test_threads(void)
     for (unsigned i = 0; i < BOARDS; i++) {
         draws[i] = draw_dealing(boards[i], boards[i].positions / 2);
         keys[i] = dealt_keys(&draws[i]);
+        spoiled[i] = lend(draws[i].arrays.bytes, draws[i].arrays.length);
+        spoiled[i].bytes[spoiled[i].length - 1] = spoiled[i].bytes[spoiled[i].length - 2];
         tables[i] = lend_filled(0, NSG_TABLE_BYTES(boards[i].positions, boards[i].value_bytes));
         joined[i] = lend_filled(0, tables[i].length);
         CHECK(nsg_open_all(keys[i].bytes, key_length(boards[i]), tables[i].bytes, tables[i].length) == NSG_ACCEPTED);
@@ -84,6 +103,7 @@ void test_threads(void)
     for (unsigned i = 0; i < BOARDS; i++) {
         give_back_draw(&draws[i]);
         give_back(&keys[i]);
+        give_back(&spoiled[i]);
         give_back(&tables[i]);
         give_back(&joined[i]);
     }
