@@ -134,6 +134,7 @@ static uint32_t done(const struct task *t)
 {
     static const uint8_t seed[SEED] = {1, 2, 3};
     const struct match *m = t->match;
+    uint32_t fault[NSG_FAULT_NUMBERS]; /* stays as it is: no deal here is refused */
     switch (t->work) {
     case EXPAND:
         return t->expand(seed, SEED, t->out, t->length);
@@ -143,7 +144,7 @@ static uint32_t done(const struct task *t)
         return t->by->join_keys(m->keys, m->keys_length, t->out, m->table_length);
     default:
         return t->by->deal(m->players, m->positions, m->width, m->value_bytes, m->point, m->value, m->value_bytes, m->arrays,
-                           m->arrays_length, m->seeds, m->seeds_length, m->words, m->words_length, t->out, m->keys_length);
+                           m->arrays_length, m->seeds, m->seeds_length, m->words, m->words_length, t->out, m->keys_length, fault);
     }
 }
 

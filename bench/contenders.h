@@ -1,12 +1,12 @@
 /* What bench.c times side by side: the library, and two peers that have the library's calls. A slice is a pointer and a length; 0 is
-   accepted. The peers are scheme.c over plain.c's ChaCha20, and scheme.c over libsodium's. */
+   accepted. The peers are scheme.c over plain.c's ChaCha20, and scheme.c over libsodium's. They tell no place of a bad column. */
 #include "../include/nosingginger.h"
 #include <stddef.h>
 
 typedef uint32_t deal_call(uint32_t players, uint32_t positions, uint32_t width, uint32_t value_bytes, uint32_t point,
                            const uint8_t *value, uint64_t value_length, const uint8_t *arrays, uint64_t arrays_length,
                            const uint8_t *seeds, uint64_t seeds_length, const uint8_t *words, uint64_t words_length, uint8_t *keys,
-                           uint64_t keys_length);
+                           uint64_t keys_length, uint32_t fault[2]);
 /* Open all, Join keys and Expand: from a key, from all keys, from a seed. */
 typedef uint32_t one_slice_call(const uint8_t *in, uint64_t in_length, uint8_t *out, uint64_t out_length);
 

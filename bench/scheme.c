@@ -1,6 +1,6 @@
 /* The scheme of document 01 written plainly in C, over the cipher that PEER names (plain or libsodium): Deal, Open all and Join keys.
    It turns away what document 01 turns away, with one number for all of it, so that no bytes lead it out of its slices; a refusal writes
-   nothing. */
+   nothing, not even the place of a bad column. */
 #include "contenders.h"
 #include <string.h>
 
@@ -180,8 +180,9 @@ static void put_part(const struct board *b, const uint8_t *array, const uint8_t 
 
 uint32_t OF(deal)(uint32_t players, uint32_t positions, uint32_t width, uint32_t value_bytes, uint32_t point, const uint8_t *value,
                   uint64_t value_length, const uint8_t *arrays, uint64_t arrays_length, const uint8_t *seeds, uint64_t seeds_length,
-                  const uint8_t *words, uint64_t words_length, uint8_t *keys, uint64_t keys_length)
+                  const uint8_t *words, uint64_t words_length, uint8_t *keys, uint64_t keys_length, uint32_t fault[2])
 {
+    (void)fault;
     struct board b = {.players = players, .positions = positions, .width = width, .value_bytes = value_bytes};
     uint8_t header[16], last[MOST_ROW];
     if (!sized(&b) || point >= positions || value_length != value_bytes || arrays_length != b.grid_rows * b.columns ||
