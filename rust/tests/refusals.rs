@@ -1,9 +1,10 @@
-//! Every refusal by its name, from a call that meets it, one step away from a call that is accepted.
+//! Every refusal by its name, from a call that meets it, one step away from a call that is accepted. The refusals of a column at every place.
 
 use nosingginger::{
     check_key, choose_width, deal, expand, join_keys, join_shares, key_length, open_all, open_one, sensor_position, Board, Dealing, Header,
     Refusal,
 };
+use reference::draw::Generator;
 
 const BOARD: Board = Board { players: 2, positions: 6, width: 4, value_bytes: 1 };
 const KEY_BYTES: usize = 79;
@@ -52,9 +53,115 @@ fn of_dealings() {
     let mut keys = [0xC3; 2 * KEY_BYTES];
     assert_eq!(deal(&Dealing { point: 6, ..DEALING }, &mut keys), Err(Refusal::Point));
     assert_eq!(deal(&Dealing { words: &[9, 3, 7], ..DEALING }, &mut keys), Err(Refusal::Lent));
-    assert_eq!(deal(&Dealing { arrays: &[0, 3, 1, 1], ..DEALING }, &mut keys), Err(Refusal::Arrays));
+    assert_eq!(deal(&Dealing { arrays: &[0, 3, 5, 1], ..DEALING }, &mut keys), Err(Refusal::ColumnBit { grid_row: 1, column: 0 }));
+    assert_eq!(deal(&Dealing { arrays: &[0, 1, 1, 2], ..DEALING }, &mut keys), Err(Refusal::ColumnParity { grid_row: 0, column: 1 }));
+    assert_eq!(deal(&Dealing { arrays: &[0, 3, 1, 1], ..DEALING }, &mut keys), Err(Refusal::ColumnTwice { grid_row: 1, column: 1 }));
     assert_eq!(deal(&DEALING, &mut keys[1..]), Err(Refusal::Room));
     assert_eq!(keys, [0xC3; 2 * KEY_BYTES]);
+}
+
+/// The arrays of a board of three grid rows, and what `deal` says of them. Seeds, words and value are zeros, since no deal is accepted.
+struct Shuffled {
+    board: Board,
+    point: u32,
+    arrays: Vec<u8>,
+}
+
+impl Shuffled {
+    fn new(players: u32, point: u32, generator: &mut Generator) -> Shuffled {
+        let board = Board { players, positions: 5, width: 2, value_bytes: 1 };
+        let arrays = (0..3).flat_map(|row| generator.array(players as usize, u32::from(row == point / 2))).collect();
+        Shuffled { board, point, arrays }
+    }
+
+    /// What is said with other columns at these bytes of the arrays; whether the keys have room does not matter, and they stay as they are.
+    fn refusal(&self, others: &[(usize, u8)]) -> Refusal {
+        let mut arrays = self.arrays.clone();
+        others.iter().for_each(|&(at, column)| arrays[at] = column);
+        let (seeds, words) = (vec![0; self.board.seeds_len().unwrap()], vec![0; self.board.words_len().unwrap()]);
+        let dealing = Dealing { board: self.board, point: self.point, value: &[0], arrays: &arrays, seeds: &seeds, words: &words };
+        let mut keys = vec![0xC3; self.board.keys_len().unwrap()];
+        let refusal = deal(&dealing, &mut keys).unwrap_err();
+        assert_eq!(deal(&dealing, &mut []), Err(refusal));
+        assert!(keys.iter().all(|&byte| byte == 0xC3));
+        refusal
+    }
+
+    /// Grid row and column of a byte of the arrays.
+    fn place(&self, at: usize) -> (u32, u32) {
+        let columns = self.board.columns().unwrap();
+        ((at / columns) as u32, (at % columns) as u32)
+    }
+
+    /// Columns that are refused at this byte, each with its refusal: a bit of no player, the wrong parity, and a column that stands before it.
+    fn bad_columns(&self, at: usize) -> Vec<(u8, Refusal)> {
+        let (grid_row, column) = self.place(at);
+        let right = self.arrays[at];
+        let mut bad: Vec<(u8, Refusal)> = Vec::new();
+        for bit in self.board.players..8 {
+            bad.push((right ^ 1 << bit, Refusal::ColumnBit { grid_row, column }));
+            bad.push((right ^ 1 << bit ^ 1, Refusal::ColumnBit { grid_row, column }));
+        }
+        bad.extend((0..self.board.players).map(|bit| (right ^ 1 << bit, Refusal::ColumnParity { grid_row, column })));
+        let earlier = &self.arrays[at - column as usize..at];
+        bad.extend(earlier.iter().map(|&other| (other, Refusal::ColumnTwice { grid_row, column })));
+        bad
+    }
+}
+
+/// All numbers of players, with the point in each of the three grid rows.
+fn shuffled_boards() -> Vec<Shuffled> {
+    let mut generator = Generator::new(18);
+    (2..=6).flat_map(|players| [0, 2, 4].map(|point| Shuffled::new(players, point, &mut generator))).collect()
+}
+
+#[test]
+fn of_every_column() {
+    for drawn in shuffled_boards() {
+        for at in 0..drawn.arrays.len() {
+            for (other, refusal) in drawn.bad_columns(at) {
+                assert_eq!(drawn.refusal(&[(at, other)]), refusal, "{:?}, byte {at}: {other:#010b}", drawn.board);
+                assert_eq!(refusal.place(), Some(drawn.place(at)));
+            }
+        }
+    }
+}
+
+#[test]
+fn of_the_first_bad_column() {
+    for drawn in shuffled_boards().into_iter().filter(|drawn| drawn.board.players <= 3) {
+        for (first, second) in (0..drawn.arrays.len()).flat_map(|second| (0..second).map(move |first| (first, second))) {
+            for (one, refusal) in drawn.bad_columns(first) {
+                for (other, _) in drawn.bad_columns(second) {
+                    assert_eq!(drawn.refusal(&[(first, one), (second, other)]), refusal, "bytes {first} and {second}: {one}, {other}");
+                }
+            }
+        }
+    }
+}
+
+/// Of two columns that are alike the second is refused, also where the first is the one that was changed.
+#[test]
+fn of_a_column_that_stands_twice() {
+    for drawn in shuffled_boards() {
+        let columns = drawn.board.columns().unwrap();
+        for (at, other) in (0..3 * columns).flat_map(|other| (other - other % columns..other).map(move |at| (at, other))) {
+            let (grid_row, column) = drawn.place(other);
+            assert_eq!(drawn.refusal(&[(at, drawn.arrays[other])]), Refusal::ColumnTwice { grid_row, column });
+        }
+    }
+}
+
+/// The piece in another grid row than the odd array: the first of the two is refused, at its first column.
+#[test]
+fn of_an_odd_array_in_another_grid_row() {
+    for drawn in shuffled_boards() {
+        for point in (0..5).filter(|point| point / 2 != drawn.point / 2) {
+            let moved = Shuffled { board: drawn.board, point, arrays: drawn.arrays.clone() };
+            let grid_row = point.min(drawn.point) / 2;
+            assert_eq!(moved.refusal(&[]), Refusal::ColumnParity { grid_row, column: 0 });
+        }
+    }
 }
 
 #[test]
