@@ -4,6 +4,7 @@ use crate::lent::Lent;
 use crate::tally::{Operation, Tally};
 use nosingginger::{raw, Refusal};
 use reference::board::Board;
+use reference::deal::column_fault;
 use reference::draw::Generator;
 
 /// The arguments of Deal, but for its output.
@@ -22,20 +23,67 @@ struct Asked<'a> {
     inputs: &'a [Lent],
 }
 
+/// Why a call is refused: the number, and grid row and column where it comes with a place.
+#[derive(Clone, Copy, Debug, PartialEq, Eq)]
+struct Refused {
+    number: u32,
+    place: Option<(u32, u32)>,
+}
+
+impl From<Refusal> for Refused {
+    fn from(refusal: Refusal) -> Refused {
+        Refused { number: refusal.number(), place: refusal.place() }
+    }
+}
+
+impl From<u32> for Refused {
+    fn from(number: u32) -> Refused {
+        Refused { number, place: None }
+    }
+}
+
+impl From<reference::deal::Refused> for Refused {
+    fn from(refused: reference::deal::Refused) -> Refused {
+        Refused { number: refused.number, place: refused.place.map(|place| (place.grid_row, place.column)) }
+    }
+}
+
+/// Numbers that a C function may write, with some before and behind them that it may not.
+#[repr(C)]
+#[derive(Clone, Copy, PartialEq, Eq)]
+struct Guarded<const COUNT: usize> {
+    before: [u32; 4],
+    numbers: [u32; COUNT],
+    behind: [u32; 4],
+}
+
+impl<const COUNT: usize> Guarded<COUNT> {
+    fn new(generator: &mut Generator) -> Guarded<COUNT> {
+        let [before, behind] = [(); 2].map(|()| [(); 4].map(|()| generator.number()));
+        Guarded { before, numbers: [(); COUNT].map(|()| generator.number()), behind }
+    }
+}
+
 pub struct Comparison {
     pub seed: u64,
     pub generator: Generator,
     pub tally: Tally,
 }
 
-/// A result with the refusal's number.
-fn numbered<T>(result: Result<T, Refusal>) -> Result<T, u32> {
-    result.map_err(Refusal::number)
+/// 0 or the refusal's number.
+fn number_of<T>(result: &Result<T, Refused>) -> u32 {
+    result.as_ref().err().map_or(0, |refused| refused.number)
 }
 
-/// 0 or the refusal's number.
-fn number_of<T>(result: &Result<T, u32>) -> u32 {
-    *result.as_ref().err().unwrap_or(&0)
+/// How many columns have a fault.
+fn faulty_columns(board: &Board, piece_row: usize, arrays: &[u8]) -> usize {
+    let mut count = 0;
+    for (grid_row, array) in arrays.chunks(board.columns()).enumerate() {
+        let ones = u32::from(grid_row == piece_row);
+        let faults = (0..array.len()).filter(|&column| column_fault(board.players, ones, &array[..column], array[column]).is_some());
+        count += faults.count();
+    }
+    count
 }
 
 impl Comparison {
@@ -66,18 +114,19 @@ impl Comparison {
         given: Result<[u32; COUNT], Refusal>,
         c_function: impl Fn(&mut [u32; COUNT]) -> u32,
     ) {
-        let given = numbered(given);
+        let (given, right) = (given.map_err(Refused::from), right.map_err(Refused::from));
         self.same(asked, given == right, &format!("{given:?}, should be {right:?}"));
-        let before = [(); COUNT].map(|()| self.generator.number());
-        let mut numbers = before;
-        let number = c_function(&mut numbers);
+        let before = Guarded::new(&mut self.generator);
+        let mut left = before;
+        let number = c_function(&mut left.numbers);
         self.same(asked, number == number_of(&right), "the C function gives another number");
-        self.same(asked, numbers == right.unwrap_or(before), "the C function leaves other numbers");
+        let numbers = right.unwrap_or(before.numbers);
+        self.same(asked, left == Guarded { numbers, ..before }, "the C function leaves other numbers");
         self.inputs_kept(asked);
         self.tally.call(asked.operation, number);
     }
 
-    /// A call that writes to an output: `exact` bytes where it is accepted. Gives whether it was.
+    /// A call that writes to an output: `exact` bytes where it is accepted.
     fn output(
         &mut self,
         asked: &Asked,
@@ -85,19 +134,35 @@ impl Comparison {
         exact: usize,
         second: impl Fn(&mut [u8]) -> Result<(), u32>,
         library: impl Fn(&mut [u8]) -> Result<(), Refusal>,
-    ) -> bool {
+    ) {
+        let right = self.written(asked, length, exact, second, library);
+        self.output_counted(asked, length, exact, right);
+    }
+
+    /// The same without counting it. Gives the answer.
+    fn written<SecondRefused: Into<Refused>>(
+        &mut self,
+        asked: &Asked,
+        length: usize,
+        exact: usize,
+        second: impl Fn(&mut [u8]) -> Result<(), SecondRefused>,
+        library: impl Fn(&mut [u8]) -> Result<(), Refusal>,
+    ) -> Result<(), Refused> {
         let mut output = Lent::output(length, &mut self.generator);
         let mut right_output = output.bytes().to_vec();
-        let right = second(&mut right_output);
-        let given = numbered(library(output.bytes_mut()));
+        let right = second(&mut right_output).map_err(SecondRefused::into);
+        let given = library(output.bytes_mut()).map_err(Refused::from);
         self.same(asked, given == right, &format!("{given:?}, should be {right:?}; output of {length} bytes"));
         let written = if right.is_ok() { exact } else { 0 };
         self.same(asked, output.bytes()[..written] == right_output[..written], "other bytes are written");
         self.same(asked, output.kept_past(written), "bytes of the output or beside it are changed");
         self.inputs_kept(asked);
+        right
+    }
+
+    fn output_counted(&mut self, asked: &Asked, length: usize, exact: usize, right: Result<(), Refused>) {
         self.tally.output(length, exact, number_of(&right));
         self.tally.call(asked.operation, number_of(&right));
-        right.is_ok()
     }
 
     fn inputs_kept(&self, asked: &Asked) {
@@ -136,11 +201,59 @@ impl Comparison {
         let board = nosingginger::Board { players, positions, width, value_bytes };
         let library = nosingginger::Dealing { board, point, value, arrays, seeds, words };
         let asked = Asked { operation: Operation::Deal, numbers: &hand.numbers, inputs: &inputs };
-        let accepted =
-            self.output(&asked, length, exact, |keys| reference::deal::deal(&second, keys), |keys| nosingginger::deal(&library, keys));
-        if let (true, Ok(board)) = (accepted, in_range) {
-            self.tally.board(&board);
+        let right =
+            self.written(&asked, length, exact, |keys| reference::deal::deal(&second, keys), |keys| nosingginger::deal(&library, keys));
+        self.fault(&asked, &library, length, exact, right);
+        self.output_counted(&asked, length, exact, right);
+        let Ok(board) = in_range else { return };
+        match right {
+            Ok(()) => self.tally.board(&board),
+            Err(Refused { number, place: Some(place) }) => {
+                let piece_row = board.grid_row_of(point as usize);
+                let odd = place.0 as usize == piece_row;
+                self.tally.place(&board, number, place, odd, faulty_columns(&board, piece_row, arrays));
+            }
+            Err(_) => {}
         }
+    }
+
+    /// Deal through the C function: `fault` holds the place where the answer has one, and is left alone otherwise.
+    fn fault(&mut self, asked: &Asked, dealing: &nosingginger::Dealing, length: usize, exact: usize, right: Result<(), Refused>) {
+        let nosingginger::Dealing { board, point, value, arrays, seeds, words } = *dealing;
+        let nosingginger::Board { players, positions, width, value_bytes } = board;
+        let lent = |bytes: &[u8]| (bytes.as_ptr(), bytes.len() as u64);
+        let [value, arrays, seeds, words] = [value, arrays, seeds, words].map(lent);
+        let mut output = Lent::output(length, &mut self.generator);
+        let keys = output.bytes_mut().as_mut_ptr();
+        let before = Guarded::new(&mut self.generator);
+        let mut left = before;
+        let number = unsafe {
+            raw::nsg_deal(
+                players,
+                positions,
+                width,
+                value_bytes,
+                point,
+                value.0,
+                value.1,
+                arrays.0,
+                arrays.1,
+                seeds.0,
+                seeds.1,
+                words.0,
+                words.1,
+                keys,
+                length as u64,
+                &mut left.numbers,
+            )
+        };
+        self.same(asked, number == number_of(&right), "the C function gives another number");
+        let place = right.err().and_then(|refused| refused.place);
+        let numbers = place.map_or(before.numbers, |(grid_row, column)| [grid_row, column]);
+        self.same(asked, left == Guarded { numbers, ..before }, "the C function leaves another place");
+        let written = if right.is_ok() { exact } else { 0 };
+        self.same(asked, output.kept_past(written), "the C function changes other bytes of the output or beside it");
+        self.inputs_kept(asked);
     }
 
     pub fn check_key(&mut self, key: &[u8]) {

@@ -53,7 +53,7 @@ pub fn faulty_hand(drawn: &Drawn, generator: &mut Generator) -> Hand {
 
 fn fault_of_hand(hand: &mut Hand, drawn: &Drawn, generator: &mut Generator) {
     let board = drawn.board;
-    match generator.below(13) {
+    match generator.below(16) {
         0 => hand.numbers[0] = generator.near(FEWEST_PLAYERS, MOST_PLAYERS),
         1 => hand.numbers[1] = generator.near(1, MOST_POSITIONS),
         2 => hand.numbers[2] = generator.near(1, MOST_GRID_WIDTH),
@@ -73,7 +73,8 @@ fn fault_of_hand(hand: &mut Hand, drawn: &Drawn, generator: &mut Generator) {
     }
 }
 
-/// An array with a bit of no player, of the wrong parity or with a column twice; or in another order.
+/// An array with a bit of no player, of the wrong parity or with a column twice; or in another order. The first and the last array, and the
+/// ends of an array, come often.
 fn fault_of_arrays(arrays: &mut [u8], board: Board, generator: &mut Generator) {
     let columns = board.columns();
     if arrays.len() < columns {
@@ -81,20 +82,47 @@ fn fault_of_arrays(arrays: &mut [u8], board: Board, generator: &mut Generator) {
     }
     let drawn = generator.below(arrays.len() / columns);
     let start = generator.pick(&[drawn, 0, arrays.len() / columns - 1]) * columns;
+    let (drawn, other) = (generator.below(columns), generator.below(columns));
+    let place = generator.pick(&[drawn, 0, columns - 1]);
     let array = &mut arrays[start..][..columns];
-    let (place, other) = (generator.below(columns), generator.below(columns));
-    match generator.below(7) {
+    match generator.below(12) {
         // Two bits keep the parity.
         0 => array[place] ^= 0xC0,
         1 => array[place] ^= 1 << generator.within(board.players as u32, 7),
-        2 => array[place] ^= 1 << generator.below(board.players),
-        3 => array[place] = array[other],
+        2 => array[place] = generator.pick(&[0x40, 0x80, 0xFF]),
+        3 | 4 => array[place] ^= 1 << generator.below(board.players),
+        5 => array[place] = array[other],
+        // An earlier column again, where there is one.
+        6 | 7 => array[place.max(1)] = array[generator.below(place.max(1))],
         // Another column of the same parity, so that one stands twice.
-        4 => array[place] ^= 3,
+        8 => array[place] ^= 3,
         // A right array of the other parity.
-        5 => array.iter_mut().for_each(|column| *column ^= 1),
+        9 => array.iter_mut().for_each(|column| *column ^= 1),
+        // Any bytes from there on, in all later arrays too.
+        10 => arrays[start + place..].iter_mut().for_each(|column| *column = generator.number() as u8),
         _ => array.swap(place, other),
     }
+}
+
+/// A dealing whose first fault is this number, 18, 19 or 20, at the first or the last column of the first or the last grid row; and every
+/// other time any bytes behind it.
+pub fn hand_with_fault(drawn: &Drawn, number: u32, generator: &mut Generator) -> Hand {
+    let mut hand = hand(drawn);
+    let board = drawn.board;
+    let columns = board.columns();
+    // 20 cannot stand at column 0.
+    let column = generator.pick(&[usize::from(number == 20), columns - 1]);
+    let start = generator.pick(&[0, board.grid_rows() - 1]) * columns;
+    let (array, behind) = hand.inputs[1][start..].split_at_mut(column + 1);
+    array[column] = match number {
+        18 => generator.number() as u8 | 1 << generator.within(board.players as u32, 7),
+        19 => array[column] ^ 1 << generator.below(board.players),
+        _ => array[generator.below(column)],
+    };
+    if generator.one_in(2) {
+        behind.iter_mut().for_each(|column| *column = generator.number() as u8);
+    }
+    hand
 }
 
 /// A key taken apart: its header's numbers in groups, and all that follows.

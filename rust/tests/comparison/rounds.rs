@@ -2,7 +2,7 @@
 
 use crate::calls::Comparison;
 use crate::draw::{as_long, cost, Draw};
-use crate::faults::{faulty_hand, faulty_key, hand, Keys};
+use crate::faults::{faulty_hand, faulty_key, hand, hand_with_fault, Keys};
 use crate::tally::Operation;
 use reference::board::{Board, FEWEST_PLAYERS, MOST_GRID_WIDTH, MOST_PLAYERS, MOST_POSITIONS, MOST_VALUE_WIDTH};
 use reference::chacha::MOST_ROW_BYTES;
@@ -102,7 +102,7 @@ impl Comparison {
         Round { keys: drawn.keys(), drawn, as_long, earlier: earlier.to_vec() }
     }
 
-    /// Every operation on a board, dealt keys and right arguments; outputs exact and one short.
+    /// Every operation on a board, dealt keys and right arguments, but for a fault of the arrays; outputs exact and one short.
     fn right_calls(&mut self, round: &Round) {
         let board = round.drawn.board;
         let [players, positions, grid_width, value_width] =
@@ -112,6 +112,11 @@ impl Comparison {
         let dealt = board.players * key_bytes(&board);
         self.deal(&hand(&round.drawn), dealt);
         self.deal(&hand(&round.drawn), dealt - 1);
+        for number in [18, 19, 20] {
+            let hand = hand_with_fault(&round.drawn, number, &mut self.generator);
+            let length = self.generator.pick(&[dealt, dealt - 1]);
+            self.deal(&hand, length);
+        }
         for key in &round.keys {
             self.check_key(key);
             self.held_seed(key, board.grid_rows() as u32 - 1, board.columns() as u32 - 1);

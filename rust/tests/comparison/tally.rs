@@ -17,10 +17,10 @@ pub enum Operation {
     SensorPosition,
 }
 
-/// The operations in their order, with the numbers that document 01 lets each give.
+/// The operations in their order, with the numbers that documents 01 and 02 let each give.
 const OPERATIONS: [(Operation, &str, &[usize]); 11] = [
     (Operation::KeyLength, "key length", &[1, 2, 3, 4, 5]),
-    (Operation::Deal, "deal", &[1, 2, 3, 4, 5, 6, 7, 8, 9]),
+    (Operation::Deal, "deal", &[1, 2, 3, 4, 5, 6, 7, 9, 18, 19, 20]),
     (Operation::CheckKey, "check key", &[1, 2, 3, 4, 5, 10, 11, 12, 13]),
     (Operation::OpenOne, "open one", &[1, 2, 3, 4, 5, 9, 10, 11, 12, 13, 14]),
     (Operation::OpenAll, "open all", &[1, 2, 3, 4, 5, 9, 10, 11, 12, 13]),
@@ -57,14 +57,32 @@ const LIMITS: [&str; 21] = [
     "empty output accepted",
 ];
 
-/// Accepted, and every refusal.
-const NUMBERS: usize = 18;
+/// Accepted, and every refusal. 8 is given no more.
+const NUMBERS: usize = 21;
+
+/// The refusals that come with a place, from 18 on.
+const PLACED: usize = 3;
+const FIRST_PLACED: usize = 18;
+
+/// Where each of these must have stood. The ends are those of boards with more than one grid row and more than two columns. 20 cannot stand
+/// at column 0: its first column is 1.
+const PLACES: [&str; 8] = [
+    "first column of the first grid row",
+    "last column of the first grid row",
+    "first column of the last grid row",
+    "last column of the last grid row",
+    "the odd array",
+    "an even array",
+    "arrays with no other fault",
+    "arrays with more faults",
+];
 
 pub struct Tally {
     numbers: [[u64; NUMBERS]; OPERATIONS.len()],
     /// Of Held seed's calls, those that no seed answered.
     not_held: u64,
     limits: [u64; LIMITS.len()],
+    places: [[u64; PLACES.len()]; PLACED],
 }
 
 impl Operation {
@@ -75,7 +93,7 @@ impl Operation {
 
 impl Tally {
     pub fn new() -> Tally {
-        Tally { numbers: [[0; NUMBERS]; OPERATIONS.len()], not_held: 0, limits: [0; LIMITS.len()] }
+        Tally { numbers: [[0; NUMBERS]; OPERATIONS.len()], not_held: 0, limits: [0; LIMITS.len()], places: [[0; PLACES.len()]; PLACED] }
     }
 
     /// How many calls were made.
@@ -108,6 +126,27 @@ impl Tally {
         self.limit("256 grid rows", grid_rows == MOST_GRID_ROWS);
         self.limit("short last grid row", positions % grid_width != 0);
         self.limit("the longest keys", reference::key::key_bytes(board) == 263_176);
+    }
+
+    /// A refusal that came with a place: whether that is in the odd array, and how many columns of all arrays have a fault.
+    pub fn place(&mut self, board: &Board, number: u32, (grid_row, column): (u32, u32), odd: bool, faulty: usize) {
+        let least_column = u32::from(number == 20);
+        let (last_row, last_column) = (board.grid_rows() as u32 - 1, board.columns() as u32 - 1);
+        let apart = last_row > 0 && last_column > 1;
+        let at = |row: u32, end: u32| apart && (grid_row, column) == (row, end);
+        let met = [
+            at(0, least_column),
+            at(0, last_column),
+            at(last_row, least_column),
+            at(last_row, last_column),
+            odd,
+            !odd,
+            faulty == 1,
+            faulty > 1,
+        ];
+        for (calls, met) in self.places[number as usize - FIRST_PLACED].iter_mut().zip(met) {
+            *calls += u64::from(met);
+        }
     }
 
     pub fn input(&mut self, length: usize) {
@@ -144,10 +183,15 @@ impl Tally {
             }
             println!("{line}");
         }
-        let each: Vec<String> = (1..NUMBERS).map(|number| format!("{number}: {}", self.refused(number))).collect();
+        let given = |number: &usize| OPERATIONS.iter().any(|(_, _, refusals)| refusals.contains(number));
+        let each: Vec<String> = (1..NUMBERS).filter(given).map(|number| format!("{number}: {}", self.refused(number))).collect();
         println!("all operations: {} calls, refused {}", self.calls(), each.join(" "));
         let limits: Vec<String> = LIMITS.iter().zip(self.limits).map(|(limit, met)| format!("{limit}: {met}")).collect();
         println!("limits met: {}", limits.join(", "));
+        for (number, calls) in (FIRST_PLACED..).zip(self.places) {
+            let places: Vec<String> = PLACES.iter().zip(calls).map(|(place, calls)| format!("{place}: {calls}")).collect();
+            println!("deal's {number} in: {}", places.join(", "));
+        }
     }
 
     fn refused(&self, number: usize) -> u64 {
@@ -172,6 +216,13 @@ impl Tally {
         for (limit, met) in LIMITS.iter().zip(self.limits) {
             if met == 0 {
                 faults.push(format!("never met: {limit}"));
+            }
+        }
+        for (number, calls) in (FIRST_PLACED..).zip(self.places) {
+            for (place, calls) in PLACES.iter().zip(calls) {
+                if calls == 0 {
+                    faults.push(format!("never met: {number} in {place}"));
+                }
             }
         }
         faults
