@@ -142,7 +142,7 @@ static uint32_t answered_are(const uint8_t *bytes, uint32_t length)
     return same;
 }
 
-/* Makes the call; the numbers that come out stand in `numbers`, and are untouched where the operation has none. */
+/* Makes the call; the numbers that come out stand in `numbers`, of Deal grid row and column of a fault, and the others are untouched. */
 static uint32_t call(const struct one_case *c, const uint8_t *input, uint8_t *out, uint32_t numbers[5])
 {
     const uint32_t *in = c->in, *l = c->lengths;
@@ -150,7 +150,7 @@ static uint32_t call(const struct one_case *c, const uint8_t *input, uint8_t *ou
     case KEY_LENGTH: return nsg_key_length(in[0], in[1], in[2], in[3], numbers);
     case DEAL:
         return nsg_deal(in[0], in[1], in[2], in[3], in[4], input, l[0], input + l[0], l[1], input + l[0] + l[1], l[2],
-                        input + l[0] + l[1] + l[2], l[3], out, c->lent);
+                        input + l[0] + l[1] + l[2], l[3], out, c->lent, numbers);
     case CHECK_KEY: return nsg_check_key(input, l[0], numbers);
     case OPEN_ONE: return nsg_open_one(input, l[0], in[0], out, c->lent);
     case OPEN_ALL: return nsg_open_all(input, l[0], out, c->lent);
@@ -174,18 +174,31 @@ static uint32_t numbers_of(uint32_t operation)
     return 0;
 }
 
+/* 1 where a case is of Deal and its answer has a place: the first number that comes out says so, and the place stands behind it. */
+static uint32_t has_place(const struct one_case *c) { return c->operation == DEAL && c->out[0] != 0; }
+
+/* 1 where the call left these numbers: those stored where there are some, and the others untouched. */
+static uint32_t numbers_are(const uint32_t numbers[5], const struct one_case *c)
+{
+    const uint32_t *stored = has_place(c) ? c->out + 1 : c->out;
+    uint32_t same = 1, written = c->refusal == 0 ? numbers_of(c->operation) : 0;
+    if (has_place(c))
+        written = NSG_FAULT_NUMBERS;
+    for (uint32_t i = 0; i < 5; i++)
+        same &= numbers[i] == (i < written ? stored[i] : (uint32_t)UNTOUCHED);
+    return same;
+}
+
 /* Runs a case whose inputs stand at the front of the room; 1 where all is as the second implementation has it. */
 static uint32_t same_as_stored(const struct one_case *c, uint32_t inputs)
 {
     uint8_t *out = room + inputs;
-    uint32_t numbers[5] = {UNTOUCHED, UNTOUCHED, UNTOUCHED, UNTOUCHED, UNTOUCHED}, written, same;
+    uint32_t numbers[5] = {UNTOUCHED, UNTOUCHED, UNTOUCHED, UNTOUCHED, UNTOUCHED}, same;
     uint64_t before = mixed(0, room, inputs);
     fill(out, c->lent, c->filled);
     fill(out + c->lent, GUARD, GUARD_BYTE);
     same = call(c, room, out, numbers) == c->refusal;
-    written = c->refusal == 0 ? numbers_of(c->operation) : 0;
-    for (uint32_t i = 0; i < 5; i++)
-        same &= numbers[i] == (i < written ? c->out[i] : (uint32_t)UNTOUCHED);
+    same &= numbers_are(numbers, c);
     if (c->operation == HELD_SEED) {
         uint32_t place = numbers[0] <= inputs && c->answered <= inputs - numbers[0] ? numbers[0] : 0;
         return (answered_are(room + place, c->answered) & same & (place == numbers[0]));
@@ -203,7 +216,7 @@ static uint32_t same_as_stored(const struct one_case *c, uint32_t inputs)
 static void run_cases(void)
 {
     uint8_t head[FILE_HEAD];
-    uint32_t cases, called = 0, equal = 0, programs = 0, too_large = 0, refused = 0, held = 0, inputs = 0;
+    uint32_t cases, called = 0, equal = 0, programs = 0, too_large = 0, refused = 0, places = 0, held = 0, inputs = 0;
     take(head, FILE_HEAD);
     cases = number_at(head + 8);
     for (uint32_t i = 0; i < cases; i++) {
@@ -225,6 +238,7 @@ static void run_cases(void)
         } else {
             called++;
             refused += c.refusal != 0;
+            places += has_place(&c);
             if (same_as_stored(&c, inputs)) {
                 equal++;
             } else {
@@ -236,12 +250,14 @@ static void run_cases(void)
             }
         }
     }
-    wrong += called - equal + (called == 0);
+    wrong += called - equal + (called == 0) + (places == 0);
     text("cases: ");
     decimal(called);
     text(" called, of which ");
     decimal(refused);
-    text(" are refused; ");
+    text(" are refused, ");
+    decimal(places);
+    text(" with a place; ");
     decimal(equal);
     text(" equal; left out ");
     decimal(programs);
@@ -324,10 +340,9 @@ static uint32_t ones(uint32_t bits)
     return count;
 }
 
-/* Draws everything that a dealing is lent: the columns of each array in any order. */
-static void draw_dealing(const struct dealing *d)
+/* Draws a dealing's arrays: the columns of each in any order. */
+static void draw_arrays(const struct dealing *d)
 {
-    draw(room, d->keys);
     for (uint32_t row = 0; row < d->grid_rows; row++) {
         uint8_t *array = room + d->arrays + row * d->columns;
         uint32_t parity = row == d->point / d->width, length = 0;
@@ -343,10 +358,63 @@ static void draw_dealing(const struct dealing *d)
     }
 }
 
-static uint32_t deal(const struct dealing *d, uint32_t arrays_bytes, uint32_t keys_bytes)
+/* Draws everything that a dealing is lent. */
+static void draw_dealing(const struct dealing *d)
+{
+    draw(room, d->keys);
+    draw_arrays(d);
+}
+
+static uint32_t deal(const struct dealing *d, uint32_t arrays_bytes, uint32_t keys_bytes, uint32_t fault[NSG_FAULT_NUMBERS])
 {
     return nsg_deal(d->players, d->positions, d->width, d->value_bytes, d->point, room, d->value_bytes, room + d->arrays, arrays_bytes,
-                    room + d->seeds, d->seeds_bytes, room + d->words, d->words_bytes, room + d->keys, keys_bytes);
+                    room + d->seeds, d->seeds_bytes, room + d->words, d->words_bytes, room + d->keys, keys_bytes, fault);
+}
+
+/* The same as a random call. What `fault` is left with goes into the digest too; an answer without a place leaves it untouched, and every
+   answer the numbers beside it. */
+static uint32_t dealt(const struct dealing *d, uint32_t arrays_bytes, uint32_t keys_bytes, uint32_t fault[NSG_FAULT_NUMBERS])
+{
+    uint32_t numbers[4] = {UNTOUCHED, UNTOUCHED, UNTOUCHED, UNTOUCHED};
+    uint32_t answer = called(deal(d, arrays_bytes, keys_bytes, numbers + 1));
+    uint32_t placed = answer >= NSG_REFUSED_COLUMN_BIT && answer <= NSG_REFUSED_COLUMN_TWICE;
+    wrong += numbers[0] != UNTOUCHED || numbers[3] != UNTOUCHED;
+    for (uint32_t i = 0; i < NSG_FAULT_NUMBERS; i++) {
+        fault[i] = numbers[1 + i];
+        wrong += !placed && fault[i] != UNTOUCHED;
+        record_number(fault[i]);
+    }
+    return answer;
+}
+
+/* How many columns were made bad, and at which ends of arrays: a bit for each number, grid row and column that is an end. */
+static uint32_t bad_columns, bad_ends;
+
+enum { ALL_ENDS = 0xFFF, KEYS_BEFORE = 0x55 };
+
+/* Makes the first or the last column of the first or the last array bad, so that the first fault is this number there; every other time
+   any bytes stand behind it. Then the arrays are drawn anew. Column 0 cannot have stood earlier, so there the first is column 1. */
+static void try_bad_column(const struct dealing *d, uint32_t number)
+{
+    uint32_t least = number == NSG_REFUSED_COLUMN_TWICE, ends = below(4), fault[NSG_FAULT_NUMBERS];
+    uint32_t row = ends & 1 ? d->grid_rows - 1 : 0, column = ends & 2 ? d->columns - 1 : least;
+    uint32_t at = d->arrays + row * d->columns + column;
+    if (number == NSG_REFUSED_COLUMN_BIT)
+        room[at] = (uint8_t)(next() >> 32 | 1u << (d->players + ends % (8 - d->players)));
+    else if (number == NSG_REFUSED_COLUMN_PARITY)
+        room[at] ^= (uint8_t)(1u << below(d->players));
+    else
+        room[at] = room[at - 1 - below(column)];
+    if (below(2) == 0)
+        draw(room + at + 1, d->seeds - at - 1);
+    /* with too little room as well, which comes after */
+    wrong += dealt(d, d->arrays_bytes, d->keys_bytes - below(2), fault) != number;
+    wrong += fault[0] != row || fault[1] != column || !all_are(room + d->keys, d->keys_bytes, KEYS_BEFORE);
+    record_bytes(room, d->rest);
+    bad_columns++;
+    if (d->grid_rows > 1 && d->columns > 2)
+        bad_ends |= 1u << (4 * (number - NSG_REFUSED_COLUMN_BIT) + ends);
+    draw_arrays(d);
 }
 
 /* Opens a square by every player alone and joins the shares: 1 where that gives the value on the point and zeros elsewhere. */
@@ -423,20 +491,24 @@ static void draw_board(struct dealing *d, uint32_t limit)
 static void random_dealing(uint32_t limit)
 {
     struct dealing d;
+    uint32_t fault[NSG_FAULT_NUMBERS];
     uint8_t *key;
     draw_board(&d, limit);
     draw_dealing(&d);
-    fill(room + d.keys, d.keys_bytes, 0x55);
+    fill(room + d.keys, d.keys_bytes, KEYS_BEFORE);
+    if (below(4) == 0)
+        for (uint32_t number = NSG_REFUSED_COLUMN_BIT; number <= NSG_REFUSED_COLUMN_TWICE; number++)
+            try_bad_column(&d, number);
     if (below(4) == 0) {
         /* a column that may not stand there, a length that is not right, or too little room */
         uint32_t what = below(3), damaged = d.arrays + below(d.arrays_bytes);
         if (what == 0)
             room[damaged] ^= (uint8_t)(1u << below(8));
-        called(deal(&d, d.arrays_bytes - (what == 1), d.keys_bytes - (what == 2)));
+        dealt(&d, d.arrays_bytes - (what == 1), d.keys_bytes - (what == 2), fault);
         record_bytes(room, d.rest);
         return;
     }
-    wrong += called(deal(&d, d.arrays_bytes, d.keys_bytes)) != 0;
+    wrong += dealt(&d, d.arrays_bytes, d.keys_bytes, fault) != 0;
     record_bytes(room, d.rest);
     wrong += !square_joins(&d, d.point);
     wrong += !square_joins(&d, below(d.positions));
@@ -489,10 +561,14 @@ static void run_random(uint32_t rounds, uint32_t limit)
         random_dealing(limit);
         random_small_calls();
     }
+    wrong += bad_ends != ALL_ENDS;
     decimal(calls);
     text(" random calls, those in at most ");
     decimal(limit);
-    text(" bytes done: ");
+    text(" bytes done, with ");
+    decimal(bad_columns);
+    text(" bad columns");
+    text(bad_ends == ALL_ENDS ? ", each number at each end of an array: " : ", NOT at all ends of an array: ");
     hexadecimal(digest);
     text("\n");
 }
@@ -521,10 +597,10 @@ static struct dealing largest(uint32_t players, uint32_t value_bytes, uint32_t l
 static void deal_largest(uint32_t players, uint32_t value_bytes, uint32_t limit)
 {
     struct dealing d = largest(players, value_bytes, limit);
-    uint32_t good;
+    uint32_t good, fault[NSG_FAULT_NUMBERS];
     d.point = d.positions - 1 - d.positions / 3;
     draw_dealing(&d);
-    good = called(deal(&d, d.arrays_bytes, d.keys_bytes)) == 0;
+    good = dealt(&d, d.arrays_bytes, d.keys_bytes, fault) == 0;
     record_bytes(room, d.rest);
     good &= square_joins(&d, d.point) & square_joins(&d, 0) & square_joins(&d, d.positions - 1);
     wrong += !good;
@@ -550,9 +626,10 @@ static void deal_largest(uint32_t players, uint32_t value_bytes, uint32_t limit)
 static void join_largest_table(void)
 {
     struct dealing d = {.players = 2, .positions = POSITIONS, .width = WIDTH, .value_bytes = VALUE_BYTES, .point = POSITIONS - 2};
+    uint32_t fault[NSG_FAULT_NUMBERS];
     wrong += !place(&d, ROOM);
     draw_dealing(&d);
-    wrong += called(deal(&d, d.arrays_bytes, d.keys_bytes)) != 0;
+    wrong += dealt(&d, d.arrays_bytes, d.keys_bytes, fault) != 0;
     wrong += !keys_join(&d, ROOM);
     text("largest table: ");
     hexadecimal(digest);
@@ -583,6 +660,7 @@ static struct dealing timed;
 
 void deal_timed(uint32_t players, uint32_t positions, uint32_t width, uint32_t value_bytes)
 {
+    uint32_t fault[NSG_FAULT_NUMBERS];
     timed.players = players;
     timed.positions = positions;
     timed.width = width;
@@ -590,7 +668,7 @@ void deal_timed(uint32_t players, uint32_t positions, uint32_t width, uint32_t v
     timed.point = 0;
     place(&timed, ROOM);
     draw_dealing(&timed);
-    deal(&timed, timed.arrays_bytes, timed.keys_bytes);
+    deal(&timed, timed.arrays_bytes, timed.keys_bytes, fault);
 }
 
 uint32_t open_timed(void)
