@@ -34,9 +34,9 @@
    archive for x86-64, under valgrind's memcheck and on boards of 2 to 6 players with rows of 4 to 4,096 bytes, none depends on the value, a
    seed, a word or a share, in any call. They do depend
      - in nsg_deal on the arrays, which say whose the seeds are, and on the point: on its grid row, and on its cell by the address at which
-       the value is put. Who can watch branches or addresses while a board deals can learn where the piece is. With a
-       deal that is refused for a column (18, 19, 20) the number and `fault` can tell the point's grid row too: they are for the board's
-       maker, and not for players;
+       the value is put. Who can watch branches or addresses while a board deals can learn where the piece is. That holds of a deal refused
+       for a column (18, 19, 20) too, whose number and `fault` can tell the point's grid row by themselves: they are for the board's maker,
+       and not for players;
      - in the calls that take a key on its header and its marks, and on the position, grid row or column that is asked for.
    Every call may depend on its numbers and lengths. Instructions whose own time depends on what they work on were not looked at, nor
    other targets.
@@ -146,7 +146,7 @@ uint32_t nsg_sensor_position(uint32_t sensor, uint32_t *position);
    Its number is the first of these that fits:
      18       it has a bit at `players` or above, which is no player's;
      19       its count of ones is even in the point's grid row, or odd in another one;
-     20       the same column stood earlier in its array. So the second of two is the bad one.
+     20       the same column stood earlier in its array: of two that are alike the second is the bad one.
    The caller wipes point, value, arrays, seeds and words after the call, refused or not: together they tell where the piece is. */
 uint32_t nsg_deal(uint32_t players, uint32_t positions, uint32_t width, uint32_t value_bytes, uint32_t point,
                   const uint8_t *value, uint64_t value_length, const uint8_t *arrays, uint64_t arrays_length,

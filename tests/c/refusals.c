@@ -177,7 +177,7 @@ static void refuse_two_columns(struct draw *draw)
 /* Bad columns on boards of three grid rows, with the point in each; the first and the last column of the first and the last grid row are among them. */
 static void test_columns_refused(void)
 {
-    static const uint8_t several[4] = {1, 8, 1, 2};   /* an odd array: 8 is no player's, 1 stands twice and 4 is not there */
+    static const uint8_t several[4] = {1, 8, 1, 2};   /* an odd array: 8 is no player's, 1 stands twice */
     for (uint32_t players = NSG_LEAST_PLAYERS; players <= NSG_MOST_PLAYERS; players++)
         for (uint32_t point = 0; point < 5; point += 2) {
             struct draw draw = draw_dealing((struct board){players, 5, 2, 1}, point);
