@@ -9,14 +9,14 @@ declare global {
     }
 }
 
-/** A refusal: document 01's number, its name, and what it means in words. */
+/** A refusal: its number, its name, and what it means in words. */
 export interface Refusal<Num extends number, Name extends string, Words extends string> {
     readonly number: Num;
     readonly name: Name;
     readonly words: Words;
 }
 
-/** All refusals; that of a number is REFUSALS[number - 1]. */
+/** All refusals in the order of their numbers. There is none of number 8, so one is found by its number and not by its place here. */
 export const REFUSALS: readonly [
     Refusal<1, 'REFUSED_PLAYERS', 'the number of players is not 2 to 6'>,
     Refusal<2, 'REFUSED_POSITIONS', 'the number of positions is not 1 to 65,536'>,
@@ -25,7 +25,6 @@ export const REFUSALS: readonly [
     Refusal<5, 'REFUSED_GRID_ROWS', 'the board has more than 256 grid rows at this width'>,
     Refusal<6, 'REFUSED_POINT', "the piece's point is none of the board's positions">,
     Refusal<7, 'REFUSED_LENT', 'an input does not have the length that the numbers ask for'>,
-    Refusal<8, 'REFUSED_ARRAYS', 'an array has a bit of no player, the wrong parity for its grid row, or a column twice'>,
     Refusal<9, 'REFUSED_ROOM', 'the output is too short for what is to be written'>,
     Refusal<10, 'REFUSED_NUMBER', "a key's header has a number that is cut short, over three groups or not in its shortest form">,
     Refusal<11, 'REFUSED_PLAYER', "a key's player is not below its number of players">,
@@ -35,22 +34,58 @@ export const REFUSALS: readonly [
     Refusal<15, 'REFUSED_PLACE', 'a key is of another board than the first, or not of the player whose place it stands in'>,
     Refusal<16, 'REFUSED_EXPANSION', 'more than 4,096 bytes are asked of a seed'>,
     Refusal<17, 'REFUSED_SENSOR', "the sensor is none of the spring board's 72">,
+    Refusal<18, 'REFUSED_COLUMN_BIT', "an array's column has a bit of no player">,
+    Refusal<19, 'REFUSED_COLUMN_PARITY', "an array's column has the wrong parity for its grid row">,
+    Refusal<20, 'REFUSED_COLUMN_TWICE', "an array's column stood earlier in its array">,
 ];
 
+/** Any refusal. */
+export type AnyRefusal = (typeof REFUSALS)[number];
 /** A refusal's number, from 1 on. */
-export type RefusalNumber = (typeof REFUSALS)[number]['number'];
+export type RefusalNumber = AnyRefusal['number'];
 /** A refusal's name, as 'REFUSED_LENGTH'. */
-export type RefusalName = (typeof REFUSALS)[number]['name'];
+export type RefusalName = AnyRefusal['name'];
 /** A refusal in words. */
-export type RefusalWords = (typeof REFUSALS)[number]['words'];
+export type RefusalWords = AnyRefusal['words'];
+/** The refusals of a bad column in a dealing's arrays. Deal alone gives them, and they say where it stands. */
+export type ColumnRefusal = Extract<AnyRefusal, { readonly number: 18 | 19 | 20 }>;
 
-/** A call that was refused. A lent output is as it was. */
-export class Refused extends Error {
-    constructor(number: RefusalNumber);
-    readonly number: RefusalNumber;
-    readonly name: RefusalName;
-    readonly words: RefusalWords;
+/** Where a column stands in a dealing's arrays. */
+export interface ColumnPlace {
+    /** the grid row, from 0 on */
+    readonly gridRow: number;
+    /** the column's index in that grid row's array, from 0 on */
+    readonly column: number;
 }
+
+/** What every refused call tells: one of some refusals. The message has the number, the words, and the place where there is one. */
+export interface RefusedFor<Some extends AnyRefusal> extends Error {
+    readonly number: Some['number'];
+    readonly name: Some['name'];
+    readonly words: Some['words'];
+}
+
+/** A deal that was refused for a bad column, with the place of the first. */
+export interface RefusedColumn extends RefusedFor<ColumnRefusal>, ColumnPlace {}
+
+/** A call that was refused for anything else: it has no place. */
+export interface RefusedElse extends RefusedFor<Exclude<AnyRefusal, ColumnRefusal>> {
+    readonly gridRow?: undefined;
+    readonly column?: undefined;
+}
+
+/**
+ * A call that was refused. A lent output is as it was. One whose number is 18, 19 or 20, whose name is one of theirs, or whose gridRow is not
+ * undefined, is a RefusedColumn.
+ */
+export type Refused = RefusedColumn | RefusedElse;
+
+/** The class of what a refused call throws. */
+export const Refused: {
+    new (number: RefusedColumn['number'], place: ColumnPlace): RefusedColumn;
+    new (number: RefusedElse['number']): RefusedElse;
+    readonly prototype: Refused;
+};
 
 /** A board's four numbers. */
 export interface Board {
@@ -113,7 +148,12 @@ export class Nosingginger {
     /** KEY LENGTH: the bytes of each player's key. Refusals: 1 to 5. */
     keyLength(board: Board): number;
 
-    /** DEAL: the keys of all players one after another, player 0 first. Refusals: 1 to 9. */
+    /**
+     * DEAL: the keys of all players one after another, player 0 first. Refusals: 1 to 7; 18, 19 or 20 for the first bad column of the arrays,
+     * grid row by grid row and column by column, with its place; 9. A column is bad for a bit at players or above (18), else for a count of
+     * ones that is even in the point's grid row or odd in another (19), else where it stood earlier in its array (20). Place and number can
+     * tell the point's grid row: they are for the board's maker, not for players.
+     */
     deal(dealing: Dealing, out?: Uint8Array): Uint8Array;
 
     /** CHECK KEY: the header's numbers of an accepted key. Refusals: 10, 1 to 5, 11, 12, 13. */

@@ -9,8 +9,8 @@
 // The WebAssembly module is the proved module compiled for another machine, and tested there; this file is tested, not proved.
 
 /**
- * The refusal numbers of document 01, by the names that all of Nosingginger's interfaces use, with the words for a person: those of the
- * repository's refusals.txt. The refusal of a number is REFUSALS[number - 1].
+ * The refusals in the order of their numbers, by the names that all of Nosingginger's interfaces use, with the words for a person: those of
+ * the repository's refusals.txt. There is none of number 8, so one is found by its number and not by its place here.
  * @type {ReadonlyArray<{ readonly number: number, readonly name: string, readonly words: string }>}
  */
 export const REFUSALS = Object.freeze([
@@ -21,7 +21,6 @@ export const REFUSALS = Object.freeze([
     [5, 'REFUSED_GRID_ROWS', 'the board has more than 256 grid rows at this width'],
     [6, 'REFUSED_POINT', "the piece's point is none of the board's positions"],
     [7, 'REFUSED_LENT', 'an input does not have the length that the numbers ask for'],
-    [8, 'REFUSED_ARRAYS', 'an array has a bit of no player, the wrong parity for its grid row, or a column twice'],
     [9, 'REFUSED_ROOM', 'the output is too short for what is to be written'],
     [10, 'REFUSED_NUMBER', "a key's header has a number that is cut short, over three groups or not in its shortest form"],
     [11, 'REFUSED_PLAYER', "a key's player is not below its number of players"],
@@ -31,20 +30,41 @@ export const REFUSALS = Object.freeze([
     [15, 'REFUSED_PLACE', 'a key is of another board than the first, or not of the player whose place it stands in'],
     [16, 'REFUSED_EXPANSION', 'more than 4,096 bytes are asked of a seed'],
     [17, 'REFUSED_SENSOR', "the sensor is none of the spring board's 72"],
+    [18, 'REFUSED_COLUMN_BIT', "an array's column has a bit of no player"],
+    [19, 'REFUSED_COLUMN_PARITY', "an array's column has the wrong parity for its grid row"],
+    [20, 'REFUSED_COLUMN_TWICE', "an array's column stood earlier in its array"],
 ].map(([number, name, words]) => Object.freeze({ number, name, words })));
+
+/**
+ * Where a column stands in a dealing's arrays: the grid row, and the column's index in that grid row's array, both from 0 on.
+ * @typedef {{ gridRow: number, column: number }} ColumnPlace
+ */
+
+// The refusals of a bad column, which say where it stands. Deal alone gives them.
+const COLUMN_REFUSALS = [18, 19, 20];
 
 /** A call that was refused. The lent output is as it was. */
 export class Refused extends Error {
-    /** @param {number} number document 01's refusal number */
-    constructor(number) {
-        const { name, words } = REFUSALS[number - 1] ?? { name: 'REFUSED', words: 'a number that is not known here' };
-        super(`refused ${number}: ${words}`);
-        /** Document 01's number, from 1 on. @type {number} */
+    /**
+     * @param {number} number the refusal's number
+     * @param {ColumnPlace} [place] where the bad column stands, with 18, 19 and 20
+     */
+    constructor(number, place) {
+        const { name, words } = REFUSALS.find((refusal) => refusal.number === number)
+            ?? { name: 'REFUSED', words: 'a number that is not known here' };
+        super(`refused ${number}: ${words}${place === undefined ? '' : ` (grid row ${place.gridRow}, column ${place.column})`}`);
+        /** The refusal's number, from 1 on. @type {number} */
         this.number = number;
         /** The number's name, as 'REFUSED_LENGTH'. @type {string} */
         this.name = name;
         /** The number in words. @type {string} */
         this.words = words;
+        if (place !== undefined) {
+            /** The bad column's grid row, from 0 on. @type {number | undefined} */
+            this.gridRow = place.gridRow;
+            /** Its index in that grid row's array, from 0 on. @type {number | undefined} */
+            this.column = place.column;
+        }
     }
 }
 
@@ -66,6 +86,7 @@ export class Refused extends Error {
 
 const SEED_BYTES = 32;
 const HEADER_NUMBERS = 5;
+const FAULT_NUMBERS = 2;
 const NUMBER_BYTES = 4;
 const PAGE_BYTES = 65536;
 const MOST_PLAYERS = 6;
@@ -129,6 +150,23 @@ function bytes(given, what) {
     return given;
 }
 
+/** Room for numbers that the module writes. */
+function roomFor(many) {
+    return new Uint8Array(many * NUMBER_BYTES);
+}
+
+/** The numbers that the module wrote. */
+function numbersIn(written) {
+    const view = new DataView(written.buffer);
+    return Array.from({ length: written.length / NUMBER_BYTES }, (_, place) => view.getUint32(place * NUMBER_BYTES, true));
+}
+
+/** Where the module says that a bad column stands. */
+function placeIn(fault) {
+    const [gridRow, column] = numbersIn(fault);
+    return { gridRow, column };
+}
+
 /**
  * The operations. Every call takes numbers and lent bytes, answers its result, or throws `Refused` with the first number that fits. A call
  * holds no state. The module works on copies of the lent bytes; the copies are wiped after each call, the module's own stack is not.
@@ -167,7 +205,10 @@ export class Nosingginger {
     }
 
     /**
-     * DEAL: the keys of all players one after another, player 0 first. Refusals: 1 to 9.
+     * DEAL: the keys of all players one after another, player 0 first. Refusals: 1 to 7; 18, 19 or 20 for the first bad column of the arrays,
+     * grid row by grid row and column by column, with its place; 9. A column is bad for a bit at players or above (18), else for a count of
+     * ones that is even in the point's grid row or odd in another (19), else where it stood earlier in its array (20). Place and number can
+     * tell the point's grid row: they are for the board's maker, not for players.
      * @param {Dealing} dealing
      * @param {Uint8Array} [out] lent output of at least players × key length bytes
      * @returns {Uint8Array} the keys
@@ -177,7 +218,7 @@ export class Nosingginger {
             u32(point, 'point')];
         const inputs = [bytes(value, 'value'), bytes(arrays, 'arrays'), bytes(seeds, 'seeds'), bytes(words, 'words')];
         const room = () => players * this.keyLength({ players, positions, width, valueBytes });
-        return this.#answer(out, room, inputs, (lent, output) => this.#calls.deal(...numbers, ...lent, ...output));
+        return this.#answer(out, room, inputs, (lent, output, [fault]) => this.#calls.deal(...numbers, ...lent, ...output, fault));
     }
 
     /**
@@ -186,11 +227,9 @@ export class Nosingginger {
      * @returns {Header}
      */
     checkKey(key) {
-        const header = new Uint8Array(HEADER_NUMBERS * NUMBER_BYTES);
+        const header = roomFor(HEADER_NUMBERS);
         this.#write([bytes(key, 'key')], header, (lent, [place]) => this.#calls.check_key(...lent, place));
-        const numbers = new DataView(header.buffer);
-        const [players, player, positions, width, valueBytes] =
-            Array.from({ length: HEADER_NUMBERS }, (_, place) => numbers.getUint32(place * NUMBER_BYTES, true));
+        const [players, player, positions, width, valueBytes] = numbersIn(header);
         return { players, player, positions, width, valueBytes };
     }
 
@@ -317,20 +356,25 @@ export class Nosingginger {
 
     /** Runs a call that writes one number. */
     #value(call) {
-        const number = new Uint8Array(NUMBER_BYTES);
+        const number = roomFor(1);
         this.#write([], number, (lent, [place]) => call(place));
-        return new DataView(number.buffer).getUint32(0, true);
+        return numbersIn(number)[0];
     }
 
-    /** Runs a call that writes to a lent output; the output comes back as the module left it, whatever the answer. */
+    /**
+     * Runs a call that writes to a lent output; the output comes back as the module left it, whatever the answer. Beside it the call is given
+     * room for the place of a bad column.
+     */
     #write(inputs, output, call) {
-        const refusal = this.#lend([...inputs, bytes(output, 'out')], (lent) => {
-            const [place] = lent[inputs.length];
-            const answer = call(lent.slice(0, inputs.length).flat(), lent[inputs.length]) >>> 0;
-            output.set(new Uint8Array(this.#memory.buffer, place, output.length));
+        const fault = roomFor(FAULT_NUMBERS);
+        const outputs = [bytes(output, 'out'), fault];
+        const refusal = this.#lend([...inputs, ...outputs], (lent) => {
+            const places = lent.slice(inputs.length);
+            const answer = call(lent.slice(0, inputs.length).flat(), ...places) >>> 0;
+            outputs.forEach((slice, index) => slice.set(new Uint8Array(this.#memory.buffer, places[index][0], slice.length)));
             return answer;
         });
-        if (refusal !== 0) throw new Refused(refusal);
+        if (refusal !== 0) throw new Refused(refusal, COLUMN_REFUSALS.includes(refusal) ? placeIn(fault) : undefined);
     }
 
     /** Copies slices behind the module's own memory, runs a call on their places and lengths, and wipes the copies. */

@@ -50,16 +50,24 @@ test('the declarations name the exports and the methods, and no others', () => {
         const declared = [...text(name).matchAll(/^export (?:class|function|const) (\w+)/gm)].map(([, exported]) => exported);
         assert.deepEqual(declared.sort(), Object.keys(module).sort());
     }
-    const classes = [...text('nosingginger.d.ts').matchAll(/^export class (\w+)[^{]*\{\n(.*?)^\}$/gms)];
-    assert.deepEqual(classes.map(([, name]) => name), ['Refused', 'Nosingginger']);
-    for (const [, name, body] of classes) {
-        const methods = [...body.matchAll(/^ {4}(\w+)\(/gm)].map(([, method]) => method);
-        assert.deepEqual(methods.sort(), Object.getOwnPropertyNames(operations[name].prototype).sort());
-    }
-    const fields = [...classes[0][2].matchAll(/^ {4}readonly (\w+):/gm)].map(([, field]) => field);
-    assert.deepEqual(fields.sort(), Object.keys(new Refused(1)).sort());
-    const entry = /^export interface Refusal<[^{]*\{\n(.*?)^\}$/ms.exec(text('nosingginger.d.ts'))[1];
-    assert.deepEqual([...entry.matchAll(/readonly (\w+):/g)].map(([, field]) => field), Object.keys(REFUSALS[0]));
+    const [[, name, body], ...others] = text('nosingginger.d.ts').matchAll(/^export class (\w+) \{\n(.*?)^\}$/gms);
+    assert.deepEqual([name, others], ['Nosingginger', []]);
+    const methods = [...body.matchAll(/^ {4}(\w+)\(/gm)].map(([, method]) => method);
+    assert.deepEqual(methods.sort(), Object.getOwnPropertyNames(Nosingginger.prototype).sort());
+});
+
+test('a refusal has the fields that are declared, and a place where one is', () => {
+    const fields = (name) => {
+        const [, body] = new RegExp(`^export interface ${name}\\b[^{]*\\{\\n(.*?)^\\}$`, 'ms').exec(text('nosingginger.d.ts'));
+        return [...body.matchAll(/^ {4}readonly (\w+)\??:/gm)].map(([, field]) => field);
+    };
+    assert.deepEqual(fields('Refusal'), Object.keys(REFUSALS[0]));
+    assert.deepEqual(fields('RefusedFor'), Object.keys(new Refused(1)));
+    assert.deepEqual([...fields('RefusedFor'), ...fields('ColumnPlace')], Object.keys(new Refused(18, { gridRow: 3, column: 5 })));
+    assert.deepEqual(fields('RefusedElse'), fields('ColumnPlace'));
+    assert.deepEqual(Object.getOwnPropertyNames(Refused.prototype), ['constructor']);
+    assert.equal(new Refused(19, { gridRow: 3, column: 5 }).message,
+        "refused 19: an array's column has the wrong parity for its grid row (grid row 3, column 5)");
 });
 
 test('a call has as many parameters as are declared', () => {

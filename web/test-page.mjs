@@ -64,7 +64,7 @@ function pieceWords(dealing) {
 }
 
 const refusalWords = (number) => {
-    const { name, words } = REFUSALS[number - 1];
+    const { name, words } = REFUSALS.find((refusal) => refusal.number === number);
     return `Refusal ${number}, ${name}: ${words}.`;
 };
 const answer = (page) => page.text('#answer');

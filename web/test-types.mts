@@ -1,6 +1,6 @@
 // Uses that the types must allow, and uses that they must refuse: tsc fails where a line under @ts-expect-error is allowed. Nothing here runs.
 import { load, loadBase64, Nosingginger, Refused, REFUSALS } from 'nosingginger';
-import type { Board, Dealing, Header, RefusalName, RefusalNumber, RefusalWords } from 'nosingginger';
+import type { Board, ColumnPlace, ColumnRefusal, Dealing, Header, RefusalName, RefusalNumber, RefusalWords, RefusedColumn } from 'nosingginger';
 import { randomDealing, systemBytes } from 'nosingginger/draw';
 
 // What the sources' own comments say of the types is what the declarations say. (Refusals are literals in the declarations alone.)
@@ -27,10 +27,35 @@ export function called(nosingginger: Nosingginger, bytes: Uint8Array): RefusalNu
     } catch (error) {
         if (!(error instanceof Refused)) throw error;
         const name: RefusalName = error.name;
-        const words: RefusalWords = REFUSALS[14].words;
+        const words: RefusalWords = REFUSALS[13].words;
         if (name === 'REFUSED_PLACE') console.log(words, error.message, new Refused(17).stack);
         return REFUSALS.find((refusal) => refusal.name === name)?.number;
     }
+}
+
+// A place is there for whoever knows that the refusal is one of a bad column, by its number, by its name or by the place itself.
+export function placed(nosingginger: Nosingginger, dealing: Dealing, error: Refused): Array<ColumnPlace | undefined> {
+    const byNumber: ColumnPlace | undefined = error.number === 19 ? error : undefined;
+    const byName: RefusedColumn | undefined = error.name === 'REFUSED_COLUMN_TWICE' ? error : undefined;
+    const byPlace: ColumnRefusal['number'] | undefined = error.gridRow !== undefined ? error.number : undefined;
+    const either: number | undefined = error.column;
+    console.log(byPlace, either);
+    try {
+        nosingginger.deal(dealing);
+    } catch (thrown) {
+        if (!(thrown instanceof Refused)) throw thrown;
+        switch (thrown.number) {
+            case 18:
+            case 19:
+            case 20:
+                return [{ gridRow: thrown.gridRow, column: thrown.column }];
+            default: {
+                const none: undefined = thrown.gridRow;
+                return [none];
+            }
+        }
+    }
+    return [byNumber, byName, new Refused(18, { gridRow: 3, column: 5 })];
 }
 
 export async function refused(nosingginger: Nosingginger, bytes: Uint8Array, board: Board, dealing: Dealing, error: Refused): Promise<void> {
@@ -70,12 +95,24 @@ export async function refused(nosingginger: Nosingginger, bytes: Uint8Array, boa
     nosingginger.dealAll(dealing);
     // @ts-expect-error there is no such name
     console.log(error.name === 'REFUSED_LENGHT');
-    // @ts-expect-error there are 17 refusals
-    REFUSALS[17];
+    // @ts-expect-error there are 19 refusals
+    REFUSALS[19];
     // @ts-expect-error which nobody changes
     REFUSALS[0].words = 'too many';
-    // @ts-expect-error 18 is no refusal
+    // @ts-expect-error 21 is no refusal
+    new Refused(21);
+    // @ts-expect-error nor is 8
+    console.log(error.number === 8);
+    // @ts-expect-error 18 has a place
     new Refused(18);
+    // @ts-expect-error 17 has none
+    new Refused(17, { gridRow: 0, column: 0 });
+    // @ts-expect-error a refusal may have no place
+    console.log(error.gridRow + error.column);
+    // @ts-expect-error 9 never has one
+    console.log(error.number === 9 && error.column + 1);
+    // @ts-expect-error and nobody changes it
+    if (error.number === 20) error.column = 0;
     // @ts-expect-error a source of random bytes answers bytes
     randomDealing(board, (length) => new Array(length));
 }

@@ -1,5 +1,5 @@
-// Tests of nosingginger.mjs in node: every call, every refusal, the printed deal, what is left of a lent output, the largest table, the
-// memory's growth, the second implementation's answers, drawn dealings and the example. Assumes that targets/build has run.
+// Tests of nosingginger.mjs in node: every call, every refusal, the place of a bad column, the printed deal, what is left of a lent output, the
+// largest table, the memory's growth, the second implementation's answers, drawn dealings and the example. Assumes that targets/build has run.
 import assert from 'node:assert/strict';
 import { execFileSync } from 'node:child_process';
 import { readFileSync, readdirSync } from 'node:fs';
@@ -17,17 +17,23 @@ const nosingginger = await load(moduleBytes);
 const FILL = 0xC9;
 const filled = (length) => new Uint8Array(length).fill(FILL);
 
-/** The call is refused with this number, and the lent outputs are as they were. */
-function refused(number, call, ...lent) {
+/** The call is refused with this number and this place, or with no place where that is null, and the lent outputs are as they were. */
+function refusedAt(number, place, call, ...lent) {
     const before = lent.map((slice) => slice.slice());
     assert.throws(call, (error) => {
         assert.ok(error instanceof Refused && error instanceof Error, String(error));
         const { name, words } = REFUSALS.find((refusal) => refusal.number === number);
-        assert.deepEqual([error.number, error.name, error.words], [number, name, words]);
-        assert.equal(error.message, `refused ${number}: ${words}`);
+        assert.deepEqual({ ...error }, { number, name, words, ...place });
+        const where = place === null ? '' : ` (grid row ${place.gridRow}, column ${place.column})`;
+        assert.equal(error.message, `refused ${number}: ${words}${where}`);
         return true;
     });
     lent.forEach((slice, index) => assert.deepEqual(slice, before[index]));
+}
+
+/** The call is refused with this number, which has no place, and the lent outputs are as they were. */
+function refused(number, call, ...lent) {
+    refusedAt(number, null, call, ...lent);
 }
 
 const spring = (players, start = players) =>
@@ -55,7 +61,10 @@ test('the refusals are those of the one list, and have the names of the Rattle s
     const listed = readFileSync(new URL('refusals.txt', root), 'utf8').matchAll(/^(\d+) (\w+) (.*)$/gm);
     assert.deepEqual([...listed].map(([, number, name, words]) => [Number(number), `REFUSED_${name}`, words]),
         REFUSALS.map(({ number, name, words }) => [number, name, words]));
-    REFUSALS.forEach((refusal, place) => assert.deepEqual([refusal.number, Object.isFrozen(refusal)], [place + 1, true]));
+    assert.ok(REFUSALS.every(Object.isFrozen));
+    const numbers = REFUSALS.map(({ number }) => number);
+    assert.deepEqual(numbers, [...new Set(numbers)].sort((a, b) => a - b));
+    assert.deepEqual({ ...new Refused(8) }, { number: 8, name: 'REFUSED', words: 'a number that is not known here' });
     const found = new Map();
     for (const file of readdirSync(new URL('crates/', root), { recursive: true }).filter((name) => /src\/[^/]*\.rt$/.test(name))) {
         for (const [, name, number] of readFileSync(new URL(`crates/${file}`, root), 'utf8').matchAll(/pub const (REFUSED_\w+): u32 = (\d+);/g)) {
@@ -147,10 +156,14 @@ test('deal: refusals, lent output, lent output that is longer', () => {
     refused(6, () => nosingginger.deal({ ...given, point: 6 }, exact), exact);
     refused(7, () => nosingginger.deal({ ...given, value: new Uint8Array(2) }, exact), exact);
     refused(7, () => nosingginger.deal({ ...given, seeds: new Uint8Array(127) }, exact), exact);
-    refused(8, () => nosingginger.deal({ ...given, arrays: Uint8Array.of(0, 3, 2, 2) }, exact), exact);
-    refused(8, () => nosingginger.deal({ ...given, arrays: Uint8Array.of(0, 3, 0, 3) }, exact), exact);
-    refused(8, () => nosingginger.deal({ ...given, arrays: Uint8Array.of(0, 7, 1, 2) }, exact), exact);
     const short = filled(157);
+    // Bad arrays come after 1 to 7 and before 9.
+    const bad = { ...given, arrays: Uint8Array.of(0, 7, 1, 2) };
+    refused(1, () => nosingginger.deal({ ...bad, players: 7 }, short), short);
+    refused(6, () => nosingginger.deal({ ...bad, point: 6 }, short), short);
+    refused(7, () => nosingginger.deal({ ...bad, words: new Uint8Array(3) }, short), short);
+    refusedAt(18, { gridRow: 0, column: 1 }, () => nosingginger.deal(bad, short), short);
+    refusedAt(18, { gridRow: 0, column: 1 }, () => nosingginger.deal(bad));
     refused(9, () => nosingginger.deal(given, short), short);
     refused(6, () => nosingginger.deal({ ...given, point: 6 }));
     const longer = filled(200);
@@ -158,6 +171,143 @@ test('deal: refusals, lent output, lent output that is longer', () => {
     assert.equal(keys.buffer, longer.buffer);
     assert.deepEqual(keys, nosingginger.deal(given));
     assert.deepEqual(longer.subarray(158), filled(42));
+});
+
+/** A drawn dealing with the piece on this square: its odd array and the one of this square's grid row change places. */
+function dealingAt(board, point) {
+    const dealing = randomDealing(board, sameEachTime(point));
+    const columns = 2 ** (board.players - 1);
+    const [drawn, wanted] = [dealing.point, point].map((square) => Math.floor(square / board.width) * columns);
+    const odd = dealing.arrays.slice(drawn, drawn + columns);
+    dealing.arrays.copyWithin(drawn, wanted, wanted + columns).set(odd, wanted);
+    return { ...dealing, point };
+}
+
+/** A dealing with one byte of its arrays changed. */
+function withColumn(dealing, at, byte) {
+    return { ...dealing, arrays: dealing.arrays.map((own, place) => (place === at ? byte : own)) };
+}
+
+/** Deal refuses each way of making one column of good arrays bad, with its number and its place. */
+function refusesColumn(dealing, at) {
+    const { players, arrays } = dealing;
+    const columns = 2 ** (players - 1);
+    const place = { gridRow: Math.floor(at / columns), column: at % columns };
+    const lent = filled(players * nosingginger.keyLength(dealing));
+    const bits = Array.from({ length: 8 }, (_, bit) => arrays[at] ^ (1 << bit));
+    const earlier = arrays.subarray(at - place.column, at);
+    for (const [number, bytes] of [[18, bits.slice(players)], [19, bits.slice(0, players)], [20, earlier]]) {
+        for (const byte of bytes) refusedAt(number, place, () => nosingginger.deal(withColumn(dealing, at, byte), lent), lent);
+    }
+}
+
+test('deal: one bad column at every place, with the piece in every grid row', () => {
+    for (const players of [2, 3, 4, 5, 6]) {
+        for (const point of [0, 2, 4]) {
+            const dealing = dealingAt({ players, positions: 5, width: 2, valueBytes: 1 }, point);
+            dealing.arrays.forEach((_, at) => refusesColumn(dealing, at));
+        }
+    }
+});
+
+test('deal: one bad column in the first and the last place of 256 grid rows', () => {
+    for (const point of [0, 100, 255]) {
+        const dealing = dealingAt({ players: 6, positions: 256, width: 1, valueBytes: 1 }, point);
+        for (const at of [0, 1, 31, 255 * 32, 255 * 32 + 1, 255 * 32 + 31]) refusesColumn(dealing, at);
+    }
+});
+
+test('deal: of several bad columns the first is named', () => {
+    const board = { players: 3, positions: 2, width: 1, valueBytes: 1 };
+    const dealing = dealingAt(board, 1);
+    const lent = filled(3 * nosingginger.keyLength(board));
+    for (const [even, odd, number, gridRow, column] of [
+        [[0, 3, 5, 6], [1, 8, 1, 2], 18, 1, 1], [[0, 3, 5, 6], [1, 2, 1, 8], 20, 1, 2],
+        [[8, 8, 8, 8], [8, 8, 8, 8], 18, 0, 0], [[255, 1, 1, 1], [0, 0, 0, 0], 18, 0, 0],
+        // A bit of no player is asked for before the parity, whichever that is.
+        [[0, 3, 5, 6], [1, 2, 4, 9], 18, 1, 3], [[0, 3, 5, 6], [1, 2, 4, 8], 18, 1, 3],
+        // The second of two that are the same is the bad one.
+        [[3, 3, 3, 3], [8, 1, 1, 1], 20, 0, 1], [[0, 3, 5, 3], [0, 8, 0, 0], 20, 0, 3],
+        // Arrays in each other's place have the wrong parity from the first column on; so has what would stand there twice.
+        [[1, 2, 4, 7], [0, 3, 5, 6], 19, 0, 0], [[0, 3, 5, 6], [0, 0, 0, 0], 19, 1, 0], [[1, 1, 1, 1], [0, 0, 0, 0], 19, 0, 0],
+    ]) {
+        refusedAt(number, { gridRow, column }, () => nosingginger.deal({ ...dealing, arrays: Uint8Array.from([...even, ...odd]) }, lent), lent);
+    }
+});
+
+/** Number and place of the first bad column of a dealing's arrays, looked for as it is defined; null where there is none. */
+function firstBad({ players, width, point, arrays }) {
+    const columns = 2 ** (players - 1);
+    for (const [at, byte] of arrays.entries()) {
+        const place = { gridRow: Math.floor(at / columns), column: at % columns };
+        const isOdd = byte.toString(2).replaceAll('0', '').length % 2 === 1;
+        if (byte >= 2 ** players) return [18, place];
+        if (isOdd !== (place.gridRow === Math.floor(point / width))) return [19, place];
+        if (arrays.subarray(at - place.column, at).includes(byte)) return [20, place];
+    }
+    return null;
+}
+
+test('deal: arrays with some bytes drawn at random', () => {
+    const random = sameEachTime(20);
+    const below = (bound) => (random(1)[0] + 256 * random(1)[0]) % bound;
+    const tried = new Map();
+    for (let round = 0; round < 2000; round += 1) {
+        const players = 2 + below(5);
+        const dealing = randomDealing({ players, positions: 1 + below(6), width: 1 + below(3), valueBytes: 1 }, random);
+        for (let times = below(6); times > 0; times -= 1) dealing.arrays[below(dealing.arrays.length)] = below(below(2) === 0 ? 2 ** players : 256);
+        const bad = firstBad(dealing);
+        const lent = filled(players * nosingginger.keyLength(dealing));
+        const number = bad?.[0] ?? 0;
+        if (bad === null) assert.deepEqual(marked(nosingginger.joinKeys(nosingginger.deal(dealing, lent)), dealing), [dealing.point]);
+        else refusedAt(...bad, () => nosingginger.deal(dealing, lent), lent);
+        tried.set(number, (tried.get(number) ?? 0) + 1);
+    }
+    for (const number of [0, 18, 19, 20]) assert.ok(tried.get(number) > 50, `${number}: ${tried.get(number)} times`);
+});
+
+/** The operations over the module with another Deal in it, and the module's memory. The other Deal is given the module's own and what it is lent. */
+function withDeal(deal) {
+    const { exports } = new WebAssembly.Instance(new WebAssembly.Module(moduleBytes));
+    const own = new Nosingginger({ exports: { ...exports, nsg_deal: (...lent) => deal(exports.nsg_deal, lent, exports.memory) } });
+    return { own, memory: exports.memory };
+}
+
+test('deal: the place is lent eight bytes of its own, and is told with 18, 19 and 20 alone', () => {
+    const given = printedDeal();
+    let answer = 0;
+    const { own } = withDeal((_, lent, memory) => {
+        const fault = lent.at(-1);
+        assert.equal(lent.length, 16);
+        assert.equal(fault % 4, 0);
+        for (const at of [5, 7, 9, 11, 13]) assert.ok(fault >= lent[at] + Number(lent[at + 1]) || fault + 8 <= lent[at], `lent ${at}`);
+        new Uint8Array(memory.buffer, fault, 8).set([0xFE, 0xFF, 0xFF, 0xFF, 4, 3, 2, 1]);
+        return answer;
+    });
+    assert.equal(own.deal(given).length, 158);
+    for (const { number } of REFUSALS) {
+        answer = number;
+        const place = number === 18 || number === 19 || number === 20 ? { gridRow: 0xFFFFFFFE, column: 0x01020304 } : null;
+        for (const lent of [filled(0), filled(1), filled(158)]) refusedAt(number, place, () => own.deal(given, lent), lent);
+    }
+});
+
+test('a deal that is refused for a column leaves nothing in the module\u2019s memory, and takes no more of it each time', () => {
+    const places = new Set();
+    const { own, memory } = withDeal((deal, lent) => {
+        places.add(lent.at(-1));
+        return deal(...lent);
+    });
+    const start = memory.buffer.byteLength;
+    const dealing = dealingAt({ players: 6, positions: 256, width: 1, valueBytes: 1 }, 255);
+    const bad = withColumn(dealing, 255 * 32 + 31, dealing.arrays[255 * 32]);
+    const refuse = () => refusedAt(20, { gridRow: 255, column: 31 }, () => own.deal(bad));
+    refuse();
+    const grown = memory.buffer.byteLength;
+    assert.ok(grown > start);
+    for (let times = 0; times < 20; times += 1) refuse();
+    assert.deepEqual([places.size, memory.buffer.byteLength], [1, grown]);
+    assert.ok(new Uint8Array(memory.buffer, start).every((byte) => byte === 0));
 });
 
 test('check key, open one, open all: refusals and lent output', () => {
@@ -355,14 +505,17 @@ test('the second implementation\u2019s answers, all cases of the eleven operatio
             const left = (index) => (operation !== 8 && index < answer.length ? answer[index] : fill);
             assert.ok(lent.every((byte, index) => byte === left(index)), `output of case ${place}`);
         } else {
-            refused(number, () => OPERATIONS[operation](into, inputs, lent), lent);
+            // A refusal has no numbers but the place of a bad column: 1, the grid row and the column.
+            const [isPlaced, gridRow, column] = outOf;
+            assert.deepEqual(outOf, isPlaced === 1 ? [1, gridRow, column, 0, 0] : [0, 0, 0, 0, 0], `numbers of case ${place}`);
+            refusedAt(number, isPlaced === 1 ? { gridRow, column } : null, () => OPERATIONS[operation](into, inputs, lent), lent);
         }
         tried.set(operation, (tried.get(operation) ?? new Set()).add(number));
     }
     assert.equal(at, length);
     assert.deepEqual([...tried.keys()].sort((a, b) => a - b), Object.keys(OPERATIONS).map(Number));
     const numbers = new Set([...tried.values()].flatMap((set) => [...set]));
-    assert.deepEqual([...numbers].sort((a, b) => a - b), Array.from({ length: 18 }, (_, number) => number));
+    assert.deepEqual([...numbers].sort((a, b) => a - b), [0, ...REFUSALS.map(({ number }) => number)]);
 });
 
 test('the system\u2019s bytes are as many as are asked for, on the largest board too', { skip: !globalThis.crypto }, () => {
