@@ -6,7 +6,7 @@ use mathlib.Core.List.{List}
 use Prim.Native.Nat.{ℕ, zero, suc, _+_, _*_, _/_, _%_, _^_, _≤_, _<_}
 use native.Mathlib.Decide.{decLe}
 use native.Mathlib.Omega.{arith}
-use native.Mathlib.Nat.{mod-lt, div-add-mod', div-lt-iff-lt-mul, mul-le-mul-right}
+use native.Mathlib.Nat.{mod-lt, div-add-mod', div-lt-iff-lt-mul}
 use lib.Arith.{digits-lt, digits-div, digits-mod}
 use lib.Dec.{leb, eqb}
 use lib.ListN.{length, getD, take, drop, length-drop}
@@ -141,13 +141,16 @@ module _ (b : Board) (a : ℕ) (cs : List ℕ) where
   abbrev at : (i : ℕ) → ℕ
   at i = fault-at b a cs (i / columns b) (i % columns b)
 
+  abbrev found-at : (i : ℕ) → Fault
+  found-at i = record { number = at i; «grid_row» = i / columns b; column = i % columns b }
+
   pub fault-next : (k i : ℕ) → at i ≡ 0 → fault-from (suc k) i b a cs ≡ fault-from k (suc i) b a cs
   unfolding fault-from
-  fault-next k i e = rw e
+  fault-next k i e = ap (λ (t : Bool). cond t (fault-from k (suc i) b a cs) (found-at i)) (eq-eqb (at i) 0 e)
 
-  pub fault-here : (k i : ℕ) → (at i ≡ 0 → ⊥) → fault-from (suc k) i b a cs ≡ record { number = at i; «grid_row» = i / columns b; column = i % columns b }
+  pub fault-here : (k i : ℕ) → (at i ≡ 0 → ⊥) → fault-from (suc k) i b a cs ≡ found-at i
   unfolding fault-from
-  fault-here k i h = rw (ne-eqb (at i) 0 h)
+  fault-here k i h = ap (λ (t : Bool). cond t (fault-from k (suc i) b a cs) (found-at i)) (ne-eqb (at i) 0 h)
 
   pub no-more : (k i : ℕ) → k ≡ 0 → fault-from k i b a cs ≡ no-fault
   unfolding fault-from
@@ -163,7 +166,7 @@ module _ (b : Board) (a : ℕ) (cs : List ℕ) where
     place : ℕ
     from : i ≤ place
     upto : place < i + k
-    is : f ≡ record { number = at place; «grid_row» = place / columns b; column = place % columns b }
+    is : f ≡ found-at place
     some : at place ≡ 0 → ⊥
     none : (m : ℕ) → i ≤ m → m < place → at m ≡ 0
 

@@ -1,7 +1,7 @@
 -- The first fault: a column among others, what is wrong with one column, and one turn of the search at a time. `drop i` of a list is what a
 -- loop has left of it at place i.
 -- Assumes nothing.
-use mathlib.Core.Path.{_≡_, refl, sym, ap, _∙_, subst⁻¹}
+use mathlib.Core.Path.{_≡_, refl, sym, _∙_}
 use mathlib.Core.Bool.{Bool, true, false, _&&_, not, cond}
 use mathlib.Core.List.{List}
 use Prim.Native.Nat.{ℕ, zero, suc, _+_, _*_, _-_, _/_, _%_, _^_, _≤_, _<_}
@@ -14,7 +14,6 @@ use lib.Seq.{drop-cons}
 use borrow.Author.Tests.{eq-eqb, ne-eqb, lt-ltb, leb-false, not-true, not-false}
 use Rattle.grid.specs.Grid.{Board, columns, arrays-long, bit, column, is-odd, same-parity, member}
 use Rattle.grid.specs.Faults.{column-fault, no-fault, fault-at, fault-from, arrays-fault}
-use Rattle.grid.specs.declared.fault.Fault.{Fault}
 use Rattle.grid.proofs.Counting.{one-left}
 use Rattle.grid.proofs.Faults.{fault-next, fault-here, no-more}
 use Rattle.grid_arrays.specs.Checking.{fitting}
@@ -93,9 +92,11 @@ pub search-begin : (b : Board) (a : ℕ) (xs : List ℕ) → length xs ≡ array
 unfolding arrays-fault
 search-begin b a xs long = rw (sub-zero, long)
 
--- one turn, where an array has `wide` columns and `n` was answered of the column at i, behind those of its array, for an odd array or an even one
-module _ (b : Board) (a : ℕ) (xs : List ℕ) (i wide n : ℕ) (o : Bool) (is-wide : wide ≡ columns b) (inside : i < length xs)
-    (answered : n ≡ column-fault b o (take (i - (i - i % wide)) (drop (i - i % wide) xs)) (getD xs i 0)) (parity : o ≡ eqb (i / wide) (a / b .wide)) where
+-- one turn, where an array has `wide` columns, and `n` was answered of a column behind some others in an odd array or an even one: these are the
+-- column at i, those before it in its array, and its grid row's parity
+module _ (b : Board) (a : ℕ) (xs : List ℕ) (i wide n : ℕ) (o : Bool) (seen : List ℕ) (c : ℕ) (is-wide : wide ≡ columns b) (inside : i < length xs)
+    (answered : n ≡ column-fault b o seen c) (behind : seen ≡ take (i - (i - i % wide)) (drop (i - i % wide) xs)) (here : c ≡ getD xs i 0)
+    (parity : o ≡ eqb (i / wide) (a / b .wide)) where
   number-at : n ≡ fault-at b a xs (i / columns b) (i % columns b)
   unfolding fault-at column
   number-at =
@@ -103,7 +104,7 @@ module _ (b : Board) (a : ℕ) (xs : List ℕ) (i wide n : ℕ) (o : Bool) (is-w
       let whole : i / J * J + i % J ≡ i = div-add-mod' i J in
       let start : i - i % J ≡ i / J * J = omega (arith, whole) in
       let size : i - i / J * J ≡ i % J = omega (arith, whole) in
-      answered ∙ rw (parity, is-wide, start, size, whole)
+      answered ∙ rw (behind, here, parity, is-wide, start, size, whole)
 
   pub search-next : n ≡ 0 → fault-from (length xs - (i + 1)) (i + 1) b a xs ≡ fault-from (length xs - i) i b a xs
   search-next none =

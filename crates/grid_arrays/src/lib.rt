@@ -112,8 +112,8 @@ fn column_fault(board: Board, odd: bool, before: &[u8], column: u8) -> u32
     requires { ⌜ board-refusal (board-of board) ≡ 0 ⌝ }
     ensures { λ r. ⌜ r ≡ column-fault (board-of board) odd (now (before .entry)) column ⌝ }
 {
-    let limit: u32 = 1 << board.players;
-    let beyond = limit <= column as u32;
+    let past: u32 = 1 << board.players;
+    let beyond = past <= column as u32;
     let fits = is_free(fitting(board, odd), column);
     let stood = is_among(before, column);
     if beyond {

@@ -1,18 +1,18 @@
 -- What Deal writes: an accepted dealing is a good dealing under every good rule, its keys are the writing of the dealt parts, these parts
 -- are good, and a share by them is the dealing's share. Assumes nothing.
 use mathlib.Core.Path.{_≡_, refl, sym, ap, _∙_}
-use mathlib.Core.Bool.{Bool, true, false, _&&_, not, cond}
+use mathlib.Core.Bool.{Bool, true, false, _&&_, cond}
 use mathlib.Core.List.{List, [], _∷_, _++_}
 use Prim.Native.Nat.{ℕ, zero, suc, _+_, _*_, _-_, _/_, _%_, _≤_, _<_}
 use native.Mathlib.Nat.{mul-le-mul-right}
 use native.Mathlib.Omega.{arith}
-use lib.Dec.{leb, eqb}
+use lib.Dec.{eqb}
 use lib.ListN.{length, getD, take, drop, length-take, length-drop}
 use lib.Seq.{drop-drop, take-at, drop-at, drop-cons, length-take-le, take-add, take-all}
-use borrow.Author.Tests.{eqb-true, leb-false, not-false}
+use borrow.Author.Tests.{eqb-true}
 use Rattle.xor.specs.Xor.{xors, zeros, bytes-good}
 use Rattle.xor.proofs.Laws.{Word, and-left, and-right}
-use Rattle.grid.specs.Grid.{Board, columns, grid-rows, row-long, board-refusal, bit, column, row-of, all-words, cell, share-from, share, arrays-good, each-long, marks-of, held-rows}
+use Rattle.grid.specs.Grid.{Board, columns, grid-rows, row-long, bit, column, row-of, all-words, cell, share-from, share, arrays-good, each-long, marks-of, held-rows}
 use Rattle.grid.specs.Arrays.{count-marked, Half-is-marked}
 use Rattle.grid.proofs.Facts.{board-accepted, Board-in, board-in, Facts, arrays-in, arrays-split, array-of, array-long, rows-in, words-in, grid-row-in, words-long}
 use Rattle.grid.proofs.Arrays.{half-is-marked}

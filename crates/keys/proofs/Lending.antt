@@ -1,5 +1,5 @@
 -- What Deal's refusals leave: an accepted board, a point on it, inputs of their lengths, and arrays of their parities. Assumes nothing.
-use mathlib.Core.Path.{_≡_, refl, sym, _∙_}
+use mathlib.Core.Path.{_≡_}
 use mathlib.Core.Bool.{Bool, true, false, _&&_, not, cond}
 use Prim.Native.Nat.{ℕ, _*_, _-_, _≤_, _<_}
 use native.Mathlib.Omega.{arith}
@@ -9,9 +9,9 @@ use borrow.Author.Tests.{eqb-true, leb-false, not-false}
 use Rattle.xor.proofs.Laws.{and-left, and-right}
 use Rattle.grid.specs.Grid.{Board, columns, grid-rows, row-long, players-fit, positions-fit, width-fits, value-fits, board-refusal, arrays-good}
 use Rattle.grid.specs.Faults.{Place-is-first}
-use Rattle.grid.proofs.Faults.{no-fault-good, fault-where-bad, place-is-first}
+use Rattle.grid.proofs.Faults.{no-fault-good, place-is-first}
 use Rattle.keys.specs.Keys.{Lent, lent-fits, sizes-refusal, lent-fault, deal-refusal}
-use Rattle.keys.proofs.Accepted.{passed, last-passed, refusing, neither}
+use Rattle.keys.proofs.Accepted.{passed, refusing, neither}
 
 -- HOW LARGE THE NUMBERS ARE
 

@@ -6,7 +6,7 @@ use mathlib.Core.List.{List, []}
 use Prim.Native.Nat.{ℕ}
 use lib.Dec.{leb, eqb}
 use Rattle.call_answers.specs.declared.Answer.{Answer}
-use Rattle.call_answers.specs.Answers.{Told, Deal-tells}
+use Rattle.call_answers.specs.Answers.{Deal-tells}
 use Rattle.keys.specs.Held.{held-seed-place, Held-at}
 use Rattle.key_check.specs.Checked.{key-checked}
 

@@ -10,7 +10,6 @@ use lib.ListN.{length, getD, take, drop, length-drop}
 use lib.Seq.{length-take-le, take-all}
 use borrow.Author.Tests.{lt-ltb, le-ltb, le-leb, lt-leb, ltb-true, ltb-false, leb-false, eqb-true, eq-eqb, ne-eqb, not-false}
 use Rattle.grid.specs.Grid.{Board, board, board-refusal, arrays-long, seeds-long, words-long}
-use Rattle.grid.specs.declared.fault.Fault.{Fault}
 use Rattle.keys.specs.Keys.{number-in, numbers-in, Lent, lent, key-long, sizes-refusal, lent-fault, deal-refusal, or-else}
 use Rattle.key_header.specs.Answers.{five-at}
 use Rattle.key_header.specs.declared.numbers.Five.{Five}
@@ -18,7 +17,7 @@ use Rattle.key_header.proofs.Reading.{five-rest}
 use Rattle.keys.proofs.Accepted.{passed, refusing, first-fits, next-fits, neither}
 use Rattle.keys.proofs.Cut.{numbers-cut}
 use Rattle.keys.proofs.Numbers.{five-good}
-use Rattle.call_answers.specs.Answers.{Put-says, Deal-says, Told, told, Deal-tells}
+use Rattle.call_answers.specs.Answers.{Put-says, Deal-says, told, Deal-tells}
 use Rattle.call_answers.specs.declared.DealAnswer.{DealAnswer}
 use Rattle.call_answers.proofs.Telling.{says-number}
 use Rattle.call_answers.proofs.Putting.{room-there, answer-is, put, untouched}

@@ -7,7 +7,6 @@ use Prim.Native.Nat.{ℕ, _+_, _*_}
 use lib.Dec.{ltb, leb, eqb}
 use lib.ListN.{length, getD, take, drop}
 use Rattle.grid.specs.Grid.{Board, board, board-refusal, arrays-long, seeds-long, words-long}
-use Rattle.grid.specs.declared.fault.Fault.{Fault}
 use Rattle.keys.specs.Keys.{numbers-in, Lent, lent-fault, key-long, keys-from, or-else, lent}
 use Rattle.call_answers.specs.Answers.{Deal-says}
 use Rattle.seed_rows.specs.Rows.{rule}

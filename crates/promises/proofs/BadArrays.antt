@@ -1,7 +1,7 @@
 -- WHAT IS WRONG WITH ARRAYS of specs/BadArrays.antt, kept: the terms are those of the crates grid and call_answers. Assumes nothing.
 use Rattle.grid.proofs.Faults.{fault-where-bad, place-is-first}
 use Rattle.call_answers.proofs.Telling.{told-once, never-8, no-place, two-numbers, first-told}
-use Rattle.promises.specs.BadArrays.{Place-told, Deals-place, Bad-arrays}
+use Rattle.promises.specs.BadArrays.{Deals-place, Bad-arrays}
 
 deals-place : Deals-place
 unfolding Deals-place

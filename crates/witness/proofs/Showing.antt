@@ -1,7 +1,7 @@
 -- What the witnesses' calls leave, over plain variables: one turn of the loop that joins tables, and what each answer of the two witnesses
 -- means, from the calls' contracts and the promises about them. Assumes nothing.
 use mathlib.Core.Path.{_≡_, refl, sym, ap, _∙_, subst}
-use mathlib.Core.Bool.{Bool, true, false, not, cond}
+use mathlib.Core.Bool.{Bool, true, false, cond}
 use mathlib.Core.List.{List, _++_, append-nil}
 use Prim.Native.Nat.{ℕ, suc, _+_, _*_, _-_, _≤_, _<_}
 use native.Mathlib.Nat.{mul-le-mul-left, mul-le-mul-right}
@@ -13,7 +13,7 @@ use lib.Seq.{take-all, length-take-le}
 use borrow.Author.Tests.{lt-ltb, ltb-false, eqb-true}
 use Rattle.xor.specs.Xor.{xors, zeros, bytes-good}
 use Rattle.xor.proofs.Laws.{good-take, good-drop, length-xors}
-use Rattle.grid.specs.Grid.{Board, board, board-refusal}
+use Rattle.grid.specs.Grid.{Board, board}
 use Rattle.grid.specs.Joining.{over}
 use Rattle.grid.proofs.Facts.{board-in}
 use Rattle.grid.proofs.Sums.{over-last, over-same}

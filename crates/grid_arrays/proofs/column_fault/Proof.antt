@@ -1,12 +1,16 @@
 -- `grid_arrays::column_fault` meets its contract: its number is the one due by the three tests. Assumes nothing.
-use Prim.Native.Nat.{_≤_, _<_}
+use mathlib.Core.Path.{_≡_, refl}
+use Prim.Native.Nat.{ℕ, _*_, _%_, _^_, _<_}
 use native.Mathlib.Omega.{arith}
 use borrow.Author.Needs.{needs}
-use mathlib.Core.Path.{_≡_, refl, _∙_, ap}
+use denote.Ref.{now}
+use lib.Dec.{leb}
 use Rattle.grid.specs.Grid.{board}
+use Rattle.grid.specs.Faults.{column-fault}
+use Rattle.grid.specs.Code.{board-of}
 use Rattle.grid.proofs.Facts.{board-in}
 use Rattle.grid.proofs.Powers.{shifted-one}
-use Rattle.grid_arrays.proofs.Faulting.{held, not-held, failed, passed, column-due}
+use Rattle.grid_arrays.proofs.Faulting.{held, not-held, failed, passed, Due, column-due}
 use Rattle.grid_arrays.proofs.column_fault.Statement.{statement}
 use Rattle.grid_arrays.proofs.column_fault.Tie as tie
 
@@ -14,15 +18,20 @@ few : (c : tie.Start) → c .args .board .players < 32
 unfolding board
 few c = omega (arith, board-in _ (c .pre) .players-most)
 
-returns : tie.Need-returns
+-- where all three tests are made, the number that is due is the column's
+due : (s : tie.After-is-among) (n : ℕ) → let args = s .before .before .before .before .before .args in
+    Due (leb (1 * 2 ^ args .board .players % 2 ^ 32) (args .column)) (s .before .is-free .result) (s .is-among .result) n
+    → n ≡ column-fault (board-of (args .board)) (args .odd) (now (args .before)) (args .column)
 unfolding board
-returns c =
-    let stood = c .before in
-    let fits = stood .before in
-    let fit = fits .before in
+due s n d =
+    let fit = s .before .before in
     let start = fit .before .before .before in
-    column-due _ _ _ (start .args .column) _ _ _ _ (shifted-one 32 _ (few start)) refl (rw (fit .fitting .ensures) at (fits .is-free .ensures))
-    (stood .is-among .ensures) _
+    column-due _ _ _ (start .args .column) _ _ _ _ (shifted-one 32 _ (few start)) refl (rw (fit .fitting .ensures) at (s .before .is-free .ensures))
+    (s .is-among .ensures) n d
+
+returns : tie.Need-returns
+returns c =
+    due (c .before) _
     (record {
       bit-first = λ x. omega (arith, held (c .if1 .taken));
       then-parity = λ x y. omega (arith, held (c .if1 .taken));
@@ -31,55 +40,40 @@ returns c =
     })
 
 returns-2 : tie.Need-returns-2
-unfolding board
 returns-2 c =
-    let stood = c .before .before in
-    let fits = stood .before in
-    let fit = fits .before in
-    let start = fit .before .before .before in
-    column-due _ _ _ (start .args .column) _ _ _ _ (shifted-one 32 _ (few start)) refl (rw (fit .fitting .ensures) at (fits .is-free .ensures))
-    (stood .is-among .ensures) _
+    let fits = c .before .before .before .is-free .result in
+    due (c .before .before) _
     (record {
-      bit-first = λ x. omega (arith, not-held (c .before .if1 .left), failed (fits .is-free .result) (c .if2 .taken));
-      then-parity = λ x y. omega (arith, not-held (c .before .if1 .left), failed (fits .is-free .result) (c .if2 .taken));
-      then-twice = λ x y z. omega (arith, not-held (c .before .if1 .left), failed (fits .is-free .result) (c .if2 .taken));
-      or-none = λ x y z. omega (arith, not-held (c .before .if1 .left), failed (fits .is-free .result) (c .if2 .taken));
+      bit-first = λ x. omega (arith, not-held (c .before .if1 .left), failed fits (c .if2 .taken));
+      then-parity = λ x y. omega (arith, not-held (c .before .if1 .left), failed fits (c .if2 .taken));
+      then-twice = λ x y z. omega (arith, not-held (c .before .if1 .left), failed fits (c .if2 .taken));
+      or-none = λ x y z. omega (arith, not-held (c .before .if1 .left), failed fits (c .if2 .taken));
     })
 
 returns-3 : tie.Need-returns-3
-unfolding board
 returns-3 c =
-    let stood = c .before .before .before in
-    let fits = stood .before in
-    let fit = fits .before in
-    let start = fit .before .before .before in
-    column-due _ _ _ (start .args .column) _ _ _ _ (shifted-one 32 _ (few start)) refl (rw (fit .fitting .ensures) at (fits .is-free .ensures))
-    (stood .is-among .ensures) _
+    let fits = c .before .before .before .before .is-free .result in
+    due (c .before .before .before) _
     (record {
-      bit-first = λ x. omega (arith, not-held (c .before .before .if1 .left), passed (fits .is-free .result) (c .before .if2 .left), held (c .if3 .taken));
-      then-parity = λ x y. omega (arith, not-held (c .before .before .if1 .left), passed (fits .is-free .result) (c .before .if2 .left), held (c .if3 .taken));
-      then-twice = λ x y z. omega (arith, not-held (c .before .before .if1 .left), passed (fits .is-free .result) (c .before .if2 .left), held (c .if3 .taken));
-      or-none = λ x y z. omega (arith, not-held (c .before .before .if1 .left), passed (fits .is-free .result) (c .before .if2 .left), held (c .if3 .taken));
+      bit-first = λ x. omega (arith, not-held (c .before .before .if1 .left), passed fits (c .before .if2 .left), held (c .if3 .taken));
+      then-parity = λ x y. omega (arith, not-held (c .before .before .if1 .left), passed fits (c .before .if2 .left), held (c .if3 .taken));
+      then-twice = λ x y z. omega (arith, not-held (c .before .before .if1 .left), passed fits (c .before .if2 .left), held (c .if3 .taken));
+      or-none = λ x y z. omega (arith, not-held (c .before .before .if1 .left), passed fits (c .before .if2 .left), held (c .if3 .taken));
     })
 
 returns-4 : tie.Need-returns-4
-unfolding board
 returns-4 c =
-    let stood = c .before .before .before in
-    let fits = stood .before in
-    let fit = fits .before in
-    let start = fit .before .before .before in
-    column-due _ _ _ (start .args .column) _ _ _ _ (shifted-one 32 _ (few start)) refl (rw (fit .fitting .ensures) at (fits .is-free .ensures))
-    (stood .is-among .ensures) _
+    let fits = c .before .before .before .before .is-free .result in
+    due (c .before .before .before) _
     (record {
-      bit-first = λ x. omega (arith, not-held (c .before .before .if1 .left), passed (fits .is-free .result) (c .before .if2 .left), not-held (c .if3 .left));
-      then-parity = λ x y. omega (arith, not-held (c .before .before .if1 .left), passed (fits .is-free .result) (c .before .if2 .left), not-held (c .if3 .left));
-      then-twice = λ x y z. omega (arith, not-held (c .before .before .if1 .left), passed (fits .is-free .result) (c .before .if2 .left), not-held (c .if3 .left));
-      or-none = λ x y z. omega (arith, not-held (c .before .before .if1 .left), passed (fits .is-free .result) (c .before .if2 .left), not-held (c .if3 .left));
+      bit-first = λ x. omega (arith, not-held (c .before .before .if1 .left), passed fits (c .before .if2 .left), not-held (c .if3 .left));
+      then-parity = λ x y. omega (arith, not-held (c .before .before .if1 .left), passed fits (c .before .if2 .left), not-held (c .if3 .left));
+      then-twice = λ x y z. omega (arith, not-held (c .before .before .if1 .left), passed fits (c .before .if2 .left), not-held (c .if3 .left));
+      or-none = λ x y z. omega (arith, not-held (c .before .before .if1 .left), passed fits (c .before .if2 .left), not-held (c .if3 .left));
     })
 
-shl-limit : tie.Need-shl-limit
-shl-limit c = few (c .before .before)
+shl-past : tie.Need-shl-past
+shl-past c = few (c .before .before)
 
 fitting-requires : tie.Need-fitting-requires
 fitting-requires c κs = search needs
@@ -94,7 +88,7 @@ pub column-fault-spec : {M : Type 1} → statement M
 column-fault-spec =
     tie.close
     (tie.spec
-    shl-limit
+    shl-past
     fitting-requires
     is-free-requires
     is-among-requires

@@ -29,7 +29,7 @@ returns c =
     let turn = c .before .before .before .before in
     let wide = turn .before .before .before in
     let start = wide .before .before in
-    search-found _ (start .args .point) _ _ _ _ _ (wide .columns .ensures) (turn .loop-test .taken) (c .before .column-fault .ensures) refl
+    search-found _ (start .args .point) _ _ _ _ _ _ _ (wide .columns .ensures) (turn .loop-test .taken) (c .before .column-fault .ensures) refl refl refl
     _ _ (c .if1 .taken) (omega arith) (omega arith)
     ∙ turn .before .loop .inv .1
 
@@ -40,7 +40,7 @@ loop-again c =
     let wide = turn .before .before .before in
     let start = wide .before .before in (
       omega arith,
-      search-next _ (start .args .point) _ _ _ _ _ (wide .columns .ensures) (turn .loop-test .taken) (c .before .column-fault .ensures) refl
+      search-next _ (start .args .point) _ _ _ _ _ _ _ (wide .columns .ensures) (turn .loop-test .taken) (c .before .column-fault .ensures) refl refl refl
           (c .if1 .left)
           ∙ turn .before .loop .inv .1,
     )
