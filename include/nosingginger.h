@@ -71,8 +71,8 @@ extern "C" {
 #define NSG_HEADER_NUMBERS 5u           /* what nsg_check_key gives */
 #define NSG_FAULT_NUMBERS 2u            /* what nsg_deal gives of a bad column */
 
-/* Stack that a call may need: a thread with this much to spare is enough. Measured on x86-64 Linux nsg_open_one takes 5.6 KiB and every
-   other call less than 1.9; the tests measure every call and fail above this figure. A board with less to spare measures its own build. */
+/* Stack that a call may need: a thread with this much to spare is enough. Measured on x86-64 Linux nsg_open_one takes 5.2 KiB and every
+   other call less than 1.6; the tests measure every call and fail above this figure. A board with less to spare measures its own build. */
 #define NSG_STACK_BYTES 32768u
 
 /* SIZES OF BUFFERS, for numbers in the bounds above (a macro evaluates an argument more than once; pass plain unsigned numbers). */

@@ -80,7 +80,7 @@ export interface RefusedElse extends RefusedFor<Exclude<AnyRefusal, ColumnRefusa
  */
 export type Refused = RefusedColumn | RefusedElse;
 
-/** The class of what a refused call throws. */
+/** The class of what a refused call throws, for `instanceof`; its types are not made for subclasses. */
 export const Refused: {
     new (number: RefusedColumn['number'], place: ColumnPlace): RefusedColumn;
     new (number: RefusedElse['number']): RefusedElse;

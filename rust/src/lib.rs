@@ -105,7 +105,7 @@ pub fn key_length(board: Board) -> Result<u32, Refusal> {
 ///
 /// ```
 /// # use nosingginger::{deal, Board, Dealing, Refusal};
-/// // Three players and two grid rows. The piece stands in the second, whose array has the column 8, though players mark only 1, 2 and 4.
+/// // Three players and two grid rows. The piece stands in the second, whose array has the column 8, though three players have only the bits 1, 2 and 4.
 /// let board = Board { players: 3, positions: 4, width: 2, value_bytes: 1 };
 /// let arrays = [0, 3, 5, 6, 1, 8, 1, 2];
 /// let (seeds, words) = (vec![0; board.seeds_len()?], vec![0; board.words_len()?]);

@@ -59,7 +59,7 @@ macro_rules! refusals {
 
             /// Grid row and column of the bad column, for the refusals that have them: those of a dealing's arrays. It is the byte
             /// grid row × [`columns`](crate::Board::columns) + column of [`Dealing::arrays`](crate::Dealing::arrays).
-            pub const fn place(self) -> Option<(u32, u32)> {
+            pub const fn bad_column(self) -> Option<(u32, u32)> {
                 match self {
                     $(Refusal::$variant $({ $grid_row, $column })? => place!($($grid_row $column)?),)*
                 }
@@ -103,7 +103,7 @@ impl fmt::Display for Refusal {
     /// The refusal in words, and its place behind them if it has one: "… (grid row 3, column 5)". A width is the words' own.
     fn fmt(&self, formatter: &mut fmt::Formatter<'_>) -> fmt::Result {
         formatter.pad(self.words())?;
-        match self.place() {
+        match self.bad_column() {
             Some((grid_row, column)) => write!(formatter, " (grid row {grid_row}, column {column})"),
             None => Ok(()),
         }

@@ -46,7 +46,7 @@ fn numbers_run_from_1_to_20_without_8_and_lead_back() {
     assert_eq!(numbers, Refusal::LIST.map(|(number, ..)| number));
     for number in numbers {
         let refusal = of_number(number).unwrap();
-        assert_eq!(Refusal::from_number(number, refusal.place()), Some(refusal));
+        assert_eq!(Refusal::from_number(number, refusal.bad_column()), Some(refusal));
     }
 }
 
@@ -55,8 +55,8 @@ fn numbers_run_from_1_to_20_without_8_and_lead_back() {
 fn three_refusals_have_a_place() {
     for (number, ..) in Refusal::LIST {
         let (placed, unplaced) = (Refusal::from_number(number, Some(PLACE)), Refusal::from_number(number, None));
-        assert_eq!((placed.is_some(), unplaced.is_some()), if number >= 18 { (true, false) } else { (false, true) }, "{number}");
-        assert_eq!(of_number(number).unwrap().place(), (number >= 18).then_some(PLACE));
+        assert_eq!((placed.is_some(), unplaced.is_some()), if (18..=20).contains(&number) { (true, false) } else { (false, true) }, "{number}");
+        assert_eq!(of_number(number).unwrap().bad_column(), (18..=20).contains(&number).then_some(PLACE));
     }
     let (grid_row, column) = PLACE;
     assert_eq!(of_number(18), Some(Refusal::ColumnBit { grid_row, column }));
@@ -69,7 +69,7 @@ fn three_refusals_have_a_place() {
 fn refusals_are_shown_in_words() {
     for (number, _, words) in Refusal::LIST {
         let refusal = of_number(number).unwrap();
-        let place = if number >= 18 { " (grid row 3, column 5)" } else { "" };
+        let place = if (18..=20).contains(&number) { " (grid row 3, column 5)" } else { "" };
         assert_eq!(refusal.to_string(), format!("{words}{place}"));
         assert_eq!(format!("{refusal:<120}"), format!("{words:<120}{place}"));
     }

@@ -121,7 +121,7 @@ fn of_every_column() {
         for at in 0..drawn.arrays.len() {
             for (other, refusal) in drawn.bad_columns(at) {
                 assert_eq!(drawn.refusal(&[(at, other)]), refusal, "{:?}, byte {at}: {other:#010b}", drawn.board);
-                assert_eq!(refusal.place(), Some(drawn.place(at)));
+                assert_eq!(refusal.bad_column(), Some(drawn.place(at)));
             }
         }
     }

@@ -134,13 +134,13 @@ static void test_columns(struct draw *draw, struct lent *keys)
     *last = last[-1];
     CHECK(quietly(deal(draw, keys, &fault), NSG_REFUSED_COLUMN_TWICE));
     CHECK(quietly(tells(&fault, last_row, columns - 1), 1));
-    *last = right[1] ^ 1;
-    CHECK(quietly(deal(draw, keys, &fault), NSG_REFUSED_COLUMN_PARITY));
-    CHECK(quietly(tells(&fault, last_row, columns - 1), 1));
     *first = right[0] | 0x80;
     CHECK(quietly(deal(draw, keys, &fault), NSG_REFUSED_COLUMN_BIT));
     CHECK(quietly(tells(&fault, 0, 0), 1));
     *first = right[0];
+    *last = right[1] ^ 1;
+    CHECK(quietly(deal(draw, keys, &fault), NSG_REFUSED_COLUMN_PARITY));
+    CHECK(quietly(tells(&fault, last_row, columns - 1), 1));
     *last = right[1];
     give_back(&fault);
 }

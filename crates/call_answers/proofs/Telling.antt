@@ -1,19 +1,19 @@
--- What Deal tells: the answer is fixed by it, and it has a place exactly where its number is 18 or more. Assumes nothing.
+-- What Deal tells: the answer is fixed by it, and it has a place exactly where its number is 18, 19 or 20. Assumes nothing.
 use mathlib.Core.Path.{_≡_, refl, sym, ap, _∙_, subst⁻¹}
 use mathlib.Core.Bool.{Bool, true, false, cond}
 use mathlib.Core.List.{List, [], _∷_}
 use Prim.Native.Nat.{ℕ, _*_, _≤_, _<_}
 use native.Mathlib.Omega.{arith}
-use borrow.Author.Tests.{eqb-true, eqb-false, le-leb, lt-leb}
-use lib.Dec.{ltb, leb, eqb}
+use borrow.Author.Tests.{eqb-true, eqb-false}
+use lib.Dec.{ltb, eqb}
 use lib.ListN.{length, getD}
 use Rattle.grid.specs.Grid.{Board, board}
-use Rattle.grid.specs.Faults.{First-fault, Place-is-first}
+use Rattle.grid.specs.Faults.{has-place, First-fault, Place-is-first}
 use Rattle.grid.proofs.Faults.{place-is-first}
 use Rattle.grid.specs.declared.fault.Fault.{Fault}
 use Rattle.keys.specs.Keys.{Lent, lent, sizes-refusal, lent-fault, deal-refusal, deal-place, key-long, or-else}
 use Rattle.keys.proofs.Accepted.{first-fits, next-fits}
-use Rattle.keys.proofs.Lending.{sizes-most, fault-least}
+use Rattle.keys.proofs.Lending.{sizes-most, fault-placed, small-unplaced, placed-large}
 use Rattle.call_answers.specs.Answers.{Told, told, Told-once, Deal-says, Deal-tells}
 use Rattle.call_answers.specs.declared.DealAnswer.{DealAnswer}
 use Rattle.call_answers.proofs.Putting.{answer-is}
@@ -58,13 +58,13 @@ picked C s f e n is by-s by-f by-e = go (eqb s 0) refl (eqb f 0) refl
         by-f (is ∙ first-fits (or-else s f) e (λ z. some (sym next ∙ z)) ∙ next) some
     go true h true k = by-e (is ∙ next-fits (or-else s f) e (next-fits s f (eqb-true s 0 h) ∙ eqb-true f 0 k))
 
--- what comes behind Deal's other numbers is below 18
-large-kept : (d rest : ℕ) → rest < 18 → leb 18 (or-else d rest) ≡ leb 18 d
+-- what comes behind Deal's other numbers has no place
+place-kept : (d rest : ℕ) → rest < 18 → has-place (or-else d rest) ≡ has-place d
 unfolding or-else
-large-kept d rest h = go (eqb d 0) refl
+place-kept d rest h = go (eqb d 0) refl
   where
-    go : (t : Bool) → eqb d 0 ≡ t → leb 18 (cond t rest d) ≡ leb 18 d
-    go true e = rw (eqb-true d 0 e) (lt-leb 18 rest h)
+    go : (t : Bool) → eqb d 0 ≡ t → has-place (cond t rest d) ≡ has-place d
+    go true e = rw (eqb-true d 0 e) (small-unplaced rest h)
     go false e = refl
 
 -- 9, or nothing
@@ -92,44 +92,47 @@ module _ (p n m w a : ℕ) (v cs ss ws : List ℕ) (r : Told) (o z : List ℕ) (
 
   pub never-8 : r .number ≡ 8 → ⊥
   never-8 e =
-      number-by ⊥ (λ few. omega arith) (λ is some. omega (arith, fault-least on l some)) (λ room. room .1 e)
+      number-by ⊥ (λ few. omega arith) (λ is some. omega (arith, placed-large (f .number) (fault-placed on l some))) (λ room. room .1 e)
 
-  -- a place is told exactly where the number is 18 or more
-  pub place-is : r .place ≡ cond (leb 18 (r .number)) (f .«grid_row» ∷ f .column ∷ []) []
+  -- a place is told exactly where the number has one
+  pub place-is : r .place ≡ cond (has-place (r .number)) (f .«grid_row» ∷ f .column ∷ []) []
   unfolding Deal-tells Deal-says deal-place
   place-is =
       let short = ltb (length o) (p * key-long on) in
       let number : r .number ≡ or-else (deal-refusal on l) (cond short 9 0) = answer-is _ _ (r .number) o z (tells .1) in
-      rw (number, large-kept (deal-refusal on l) (cond short 9 0) (nine-or-none short (cond short 9 0) refl .0)) (tells .0)
+      rw (number, place-kept (deal-refusal on l) (cond short 9 0) (nine-or-none short (cond short 9 0) refl .0)) (tells .0)
 
-  pub place-long : length (r .place) ≡ cond (leb 18 (r .number)) 2 0
-  place-long = ap (λ (xs : List ℕ). length xs) place-is ∙ go (leb 18 (r .number))
+  pub place-long : length (r .place) ≡ cond (has-place (r .number)) 2 0
+  place-long = ap (λ (xs : List ℕ). length xs) place-is ∙ go (has-place (r .number))
     where
       go : (t : Bool) → length {A = ℕ} (cond t (f .«grid_row» ∷ f .column ∷ []) []) ≡ cond t 2 0
       go true = refl
       go false = refl
 
-  pub no-place : r .number < 18 → r .place ≡ []
-  no-place h = place-is ∙ rw (lt-leb 18 (r .number) h)
+  pub no-place : has-place (r .number) ≡ false → r .place ≡ []
+  no-place h = place-is ∙ rw h
 
-  module _ (h : 18 ≤ r .number) where
+  module _ (h : has-place (r .number) ≡ true) where
     place-there : r .place ≡ f .«grid_row» ∷ f .column ∷ []
-    place-there = place-is ∙ rw (le-leb 18 (r .number) h)
+    place-there = place-is ∙ rw h
 
     pub two-numbers : length (r .place) ≡ 2
-    two-numbers = place-long ∙ rw (le-leb 18 (r .number) h)
+    two-numbers = place-long ∙ rw h
+
+    least : 18 ≤ r .number
+    least = placed-large (r .number) h
 
     number-is : r .number ≡ f .number
-    number-is = number-by (r .number ≡ f .number) (λ few. absurd (omega arith)) (λ is some. is) (λ room. absurd (omega arith))
+    number-is = number-by (r .number ≡ f .number) (λ few. absurd (omega (arith, least))) (λ is some. is) (λ room. absurd (omega (arith, least)))
 
     pub first-told : First-fault on a cs (record { number = r .number; «grid_row» = getD (r .place) 0 0; column = getD (r .place) 1 0 })
     unfolding made Place-is-first
     first-told =
         subst⁻¹ (λ (g : Fault). First-fault on a cs g)
         (same-made _ _ _ _ _ _ number-is (ap (λ (xs : List ℕ). getD xs 0 0) place-there) (ap (λ (xs : List ℕ). getD xs 1 0) place-there))
-        (place-is-first on a cs (λ none. omega (arith, number-is)))
+        (place-is-first on a cs (λ none. omega (arith, number-is, least)))
 
--- an answer without a place is below 18, and one with a place is not
+-- a number that is answered without a place has none, and that of a fault has one
 long-none : (t : Bool) → _≡_ {A = ℕ} 0 (cond t 2 0) → t ≡ false
 long-none true e = absurd (omega arith)
 long-none false e = refl
@@ -139,15 +142,15 @@ long-two true e = refl
 long-two false e = absurd (omega arith)
 
 module _ (p n m w a : ℕ) (v cs ss ws o z : List ℕ) where
-  pub plain-small : (k : ℕ) → Deal-tells p n m w a v cs ss ws (told (DealAnswer.Number k)) o z → leb 18 k ≡ false
+  pub plain-unplaced : (k : ℕ) → Deal-tells p n m w a v cs ss ws (told (DealAnswer.Number k)) o z → has-place k ≡ false
   unfolding told
-  plain-small k tells = long-none (leb 18 k) (place-long p n m w a v cs ss ws _ o z tells)
+  plain-unplaced k tells = long-none (has-place k) (place-long p n m w a v cs ss ws _ o z tells)
 
   -- and its number alone is what Deal says
   pub says-number : (d : DealAnswer) (k : ℕ) → Deal-tells p n m w a v cs ss ws (told d) o z → k ≡ told d .number → Deal-says p n m w a v cs ss ws k o z
   unfolding Deal-tells
   says-number d k tells e = rw e (tells .1)
 
-  pub placed-large : (g : Fault) → Deal-tells p n m w a v cs ss ws (told (DealAnswer.Fault g)) o z → leb 18 (g .number) ≡ true
+  pub faulty-placed : (g : Fault) → Deal-tells p n m w a v cs ss ws (told (DealAnswer.Fault g)) o z → has-place (g .number) ≡ true
   unfolding told
-  placed-large g tells = long-two (leb 18 (g .number)) (place-long p n m w a v cs ss ws _ o z tells)
+  faulty-placed g tells = long-two (has-place (g .number)) (place-long p n m w a v cs ss ws _ o z tells)

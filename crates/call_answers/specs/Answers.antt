@@ -1,6 +1,6 @@
 -- What the operations answer and leave behind: document 03's Entry, word for word but for a name, `width-refusal`, and for Deal's place,
--- which is document 02's, (i). Each is an equation that fixes the number, the value and every lent byte, refused calls too. Join keys has its own file; Check key and
--- Held seed answer as the crate keys says. Assumes nothing: these are definitions.
+-- which is document 02's, (i). Each is an equation that fixes the number, the value and every lent byte, refused calls too. Join keys has its
+-- own file; Check key and Held seed answer as the crate keys says. Assumes nothing: these are definitions.
 use mathlib.Core.Path.{_≡_}
 use mathlib.Core.Bool.{not, cond}
 use mathlib.Core.List.{List, [], _∷_}
@@ -34,11 +34,12 @@ Deal-says p n m w a v cs ss ws r o z =
     (or-else (deal-refusal (board p n m w) (lent a v cs ss ws)) (cond (ltb (length o) (p * key-long (board p n m w))) 9 0))
     (keys-from p 0 (board p n m w) (λ seed. rule (board p n m w) seed) (lent a v cs ss ws)) r o z
 
--- each case of Deal's answer: the number, and the grid row and the column of its place, where it has one
+-- what Deal tells: a number, and the grid row and the column of its place, where it has one
 pub record Told : Type 0 where
   pub number : ℕ
   pub place : List ℕ
 
+-- each case of its answer
 unfoldable pub told : DealAnswer → Told
 told (DealAnswer.Number n) = record { number = n; place = [] }
 told (DealAnswer.Fault f) = record { number = f .number; place = f .«grid_row» ∷ f .column ∷ [] }

@@ -1,18 +1,17 @@
 -- Deal: the chain of its numbers, what each test answers and what is left where none fits, and what is written. Assumes nothing.
 use mathlib.Core.Path.{_≡_, refl, sym, ap, _∙_}
-use mathlib.Core.Bool.{Bool, true, false, _&&_, not, cond}
+use mathlib.Core.Bool.{Bool, true, false, not, cond}
 use mathlib.Core.List.{List, [], _∷_}
 use Prim.Native.Nat.{ℕ, _*_, _≤_, _<_}
 use native.Mathlib.Omega.{arith}
-use borrow.Author.Tests.{eq-eqb, ne-eqb, le-leb, lt-leb, le-ltb, lt-ltb, eqb-true, not-true, not-false}
+use borrow.Author.Tests.{eq-eqb, ne-eqb, le-leb, lt-leb, le-ltb, lt-ltb, not-true, not-false}
 use lib.Dec.{eqb, ltb}
 use lib.ListN.{length}
-use Rattle.xor.proofs.Laws.{and-left, and-right}
 use Rattle.grid.specs.Grid.{Board, board, board-refusal, arrays-long, seeds-long, words-long}
 use Rattle.grid.specs.declared.fault.Fault.{Fault}
 use Rattle.keys.specs.Keys.{Lent, key-long, sizes-refusal, lent-fault, deal-refusal, deal-place, or-else, lent, lent-fits}
 use Rattle.keys.proofs.Accepted.{first-fits, next-fits}
-use Rattle.keys.proofs.Lending.{sizes-most, fault-least, Sizes-fit, sizes-fit}
+use Rattle.keys.proofs.Lending.{sizes-most, fault-placed, small-unplaced, Sizes-fit, sizes-fit}
 use Rattle.deal_keys.specs.Dealt.{dealt-keys}
 use Rattle.call_answers.specs.Answers.{Deal-says, told, Deal-tells}
 use Rattle.call_answers.specs.declared.DealAnswer.{DealAnswer}
@@ -38,13 +37,6 @@ module _ (b : Board) (v cs ss ws : ℕ) where
 
       pub fits-but-words : (l : ℕ) → ss ≡ s → l ≡ words-long b → eqb ws l ≡ lent-fits b v cs ss ws
       fits-but-words l seeds words-is = rw (eq-eqb v (b .w) value, first, ← seeds-is, eq-eqb ss s seeds, words-is)
-
-  pub arrays-fit : {r : Bool} → r ≡ lent-fits b v cs ss ws → not r ≡ false → cs ≡ arrays-long b
-  arrays-fit {r} e h =
-      let value = eqb v (b .w) in
-      let arrays = eqb cs (arrays-long b) in
-      let rest = eqb ss (seeds-long b) && eqb ws (words-long b) in
-      eqb-true cs (arrays-long b) (and-right value arrays (and-left (value && arrays) rest (sym e ∙ not-false r h)))
 
 -- THE CHAIN
 
@@ -75,12 +67,11 @@ module _ (b : Board) (l : Lent) where
   unfolding deal-refusal deal-place
   placed f none e some =
       let number = next-fits (sizes-refusal b l) (lent-fault b l .number) none in
-      let large = fault-least b l (λ z. some (rw e z)) in
-      rw e (number, rw (number, le-leb 18 (lent-fault b l .number) large))
+      rw e (number, rw (number, fault-placed b l (λ z. some (rw e z))))
 
   pub unplaced : (n : ℕ) → deal-refusal b l ≡ n → n < 18 → [] ≡ deal-place b l
   unfolding deal-place
-  unplaced n e h = rw (e, lt-leb 18 n h)
+  unplaced n e h = rw (e, small-unplaced n h)
 
   -- 1 to 7 refuse as they stand
   pub by-sizes : (r : ℕ) → r ≡ sizes-refusal b l → (r ≡ 0 → ⊥) → deal-refusal b l ≡ r

@@ -68,7 +68,9 @@ pub fn deal(
     words: &[u8],
     keys: &mut [u8],
 ) -> DealAnswer
-    ensures { λ r. ⌜ Deal-tells players positions width «value_bytes» point (now (value .entry)) (now (arrays .entry)) (now (seeds .entry)) (now (words .entry)) (told r) (now (keys .entry)) (now (keys .exit)) ⌝ }
+    ensures { λ r. ⌜ Deal-tells players positions width «value_bytes» point
+        (now (value .entry)) (now (arrays .entry)) (now (seeds .entry)) (now (words .entry)) (told r)
+        (now (keys .entry)) (now (keys .exit)) ⌝ }
 {
     let board = Board {
         players,

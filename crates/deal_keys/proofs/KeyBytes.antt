@@ -150,7 +150,8 @@ module _ (b : Board) (l : Lent) (facts : Lent-fits b l) where
 
   pub word-long : length word ≡ row-long b
   word-long =
-      dealt-word-long b (board-in b (facts .sizes .accepted)) (l .point) (l .value) (l .seeds) (l .words) (facts .sizes .point) (facts .sizes .value) (omega (arith, facts .sizes .words))
+      let sizes = facts .sizes in
+      dealt-word-long b (board-in b (sizes .accepted)) (l .point) (l .value) (l .seeds) (l .words) (sizes .point) (sizes .value) (omega (arith, sizes .words))
 
   -- a key is its front and the last word
   pub key-is : (i : ℕ) → one-key i ≡ front i ++ word
@@ -158,7 +159,8 @@ module _ (b : Board) (l : Lent) (facts : Lent-fits b l) where
   key-is i =
       let rows = header b i ++ body-from (grid-rows b) b i (l .arrays) (l .seeds) in
       let lent-words = words-from (columns b - 1) (row-long b) (l .words) in
-      let whole : glued lent-words ≡ l .words = glue-words (columns b - 1) (row-long b) (l .words) ∙ take-all ((columns b - 1) * row-long b) (l .words) (omega (arith, facts .sizes .words)) in
+      let all = take-all ((columns b - 1) * row-long b) (l .words) (omega (arith, facts .sizes .words)) in
+      let whole : glued lent-words ≡ l .words = glue-words (columns b - 1) (row-long b) (l .words) ∙ all in
       ap (λ (r : List ℕ). rows ++ r) (glued-snoc lent-words word ∙ ap (λ (r : List ℕ). r ++ word) whole) ∙ sym (append-assoc rows (l .words) word)
 
   -- a front and the last word, by the length of a grid row

@@ -13,7 +13,8 @@ use lib.ListN.{length, getD, take, drop, length-drop}
 use lib.Seq.{length-take-le, getD-take, getD-drop}
 use borrow.Author.Tests.{leb-false, lt-leb, eqb-true, eqb-false, eq-eqb, ne-eqb, not-false}
 use Rattle.grid.specs.Grid.{Board, columns, grid-rows, arrays-long, column, is-odd, same-parity, member, arrays-good}
-use Rattle.grid.specs.Faults.{bit-beyond, wrong-parity, before, fits, column-fault, fits-at, fault-at, no-fault, fault-from, arrays-fault, Fault-where-bad, First-fault, Place-is-first}
+use Rattle.grid.specs.Faults.{bit-beyond, wrong-parity, before, fits, column-fault, fits-at, fault-at, no-fault, fault-from, arrays-fault}
+use Rattle.grid.specs.Faults.{Fault-where-bad, First-fault, Place-is-first}
 use Rattle.grid.specs.declared.fault.Fault.{Fault}
 use Rattle.grid.proofs.Columns.{parity-is, parity-fits}
 use Rattle.grid.proofs.Facts.{columns-pos, absent, not-member, Arrays-in, arrays-in, arrays-accepted}

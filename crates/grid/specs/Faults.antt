@@ -2,7 +2,7 @@
 -- first, and that there is one exactly where the arrays are not as they must be, are statements whose proofs are owed.
 -- Assumes nothing: these are definitions.
 use mathlib.Core.Path.{_≡_}
-use mathlib.Core.Bool.{Bool, true, false, not, cond}
+use mathlib.Core.Bool.{Bool, true, false, _&&_, not, cond}
 use mathlib.Core.List.{List}
 use Prim.Native.Nat.{ℕ, zero, suc, _*_, _/_, _%_, _^_, _≤_, _<_}
 use lib.Dec.{leb, eqb}
@@ -34,6 +34,10 @@ unfoldable pub column-fault : Board → (odd : Bool) → (before : List ℕ) →
 column-fault b o before c =
     cond (bit-beyond b c) 18 (cond (wrong-parity o c) 19 (cond (stood-earlier before c) 20 0))
 
+-- the numbers that come with a place
+abbrev pub has-place : (number : ℕ) → Bool
+has-place n = leb 18 n && leb n 20
+
 -- AT ONE PLACE of all arrays: column j of grid row g, where the point's grid row has an odd array and all others have even ones
 
 -- the columns before it in its array
@@ -46,10 +50,11 @@ fits-at b a cs g j n = fits b (eqb g (a / b .wide)) (before b cs g j) (column b 
 unfoldable pub fault-at : Board → (point : ℕ) → (arrays : List ℕ) → (g j : ℕ) → ℕ
 fault-at b a cs g j = column-fault b (eqb g (a / b .wide)) (before b cs g j) (column b cs g j)
 
--- "THE FIRST FAULT, scanning row by row and column by column": of `left` places from the i-th on, which is column i mod J of grid row i div J
+-- no fault
 abbrev pub no-fault : Fault
 no-fault = record { number = 0; «grid_row» = 0; column = 0 }
 
+-- "THE FIRST FAULT, scanning row by row and column by column": of `left` places from the i-th on, which is column i mod J of grid row i div J
 unfoldable pub fault-from : (left i : ℕ) → Board → (point : ℕ) → (arrays : List ℕ) → Fault
 fault-from zero i b a cs = no-fault
 fault-from (suc k) i b a cs =

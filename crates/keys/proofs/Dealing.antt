@@ -12,7 +12,8 @@ use lib.Seq.{drop-drop, take-at, drop-at, drop-cons, length-take-le, take-add, t
 use borrow.Author.Tests.{eqb-true}
 use Rattle.xor.specs.Xor.{xors, zeros, bytes-good}
 use Rattle.xor.proofs.Laws.{Word, and-left, and-right}
-use Rattle.grid.specs.Grid.{Board, columns, grid-rows, row-long, bit, column, row-of, all-words, cell, share-from, share, arrays-good, each-long, marks-of, held-rows}
+use Rattle.grid.specs.Grid.{Board, columns, grid-rows, row-long, bit, column, row-of, all-words, cell}
+use Rattle.grid.specs.Grid.{share-from, share, arrays-good, each-long, marks-of, held-rows}
 use Rattle.grid.specs.Arrays.{count-marked, Half-is-marked}
 use Rattle.grid.proofs.Facts.{board-accepted, Board-in, board-in, Facts, arrays-in, arrays-split, array-of, array-long, rows-in, words-in, grid-row-in, words-long}
 use Rattle.grid.proofs.Arrays.{half-is-marked}

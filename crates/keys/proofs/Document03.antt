@@ -8,17 +8,18 @@ use native.Mathlib.Nat.{div-zero, div-mul-le-self, le-div-iff-mul-le, zero-lt-su
 use native.Mathlib.Omega.{arith}
 use lib.Dec.{leb, eqb}
 use lib.ListN.{length, getD, take, drop}
-use borrow.Author.Tests.{eqb-true, eqb-false, ne-eqb, le-leb, lt-leb}
+use borrow.Author.Tests.{eqb-true, eqb-false, ne-eqb}
 use Rattle.xor.specs.Xor.{xors, zeros}
 use Rattle.grid.specs.Grid.{Board, columns, grid-rows, board-refusal, bit, cell, arrays-good}
-use Rattle.grid.specs.Faults.{Fault-where-bad}
+use Rattle.grid.specs.Faults.{has-place, Fault-where-bad}
 use Rattle.grid.proofs.Faults.{fault-where-bad}
-use Rattle.keys.specs.Keys.{mark-bytes, grid-row-part, opened-from, opened-part, opened, head-in, key, or-else, numbers-refusal, head-refusal, lent-fits, sizes-refusal, lent-fault, deal-refusal, key-refusal}
+use Rattle.keys.specs.Keys.{mark-bytes, grid-row-part, opened-from, opened-part, opened, head-in, key}
+use Rattle.keys.specs.Keys.{or-else, numbers-refusal, head-refusal, lent-fits, sizes-refusal, lent-fault, deal-refusal, key-refusal}
 use Rattle.keys.specs.Promise as Promise
 use Rattle.keys.specs.Document03 as Document03
 use Rattle.keys.proofs.Opening.{word-behind-is}
 use Rattle.keys.proofs.Accepted.{refusing}
-use Rattle.keys.proofs.Lending.{board-most, fault-least, sizes-fit}
+use Rattle.keys.proofs.Lending.{board-most, fault-placed, small-unplaced, sizes-fit}
 use Rattle.keys.proofs.Promise as Proved
 
 -- OPENING
@@ -52,20 +53,20 @@ same-opening f ks a h =
 
 -- THE REFUSALS: those of a board are the same text, those of a dealing the same but for 8, those of a key the same chain, cut behind the
 -- header's own
-deal-chain : (refused beyond other good : Bool) (n f : ℕ) → refused ≡ not (eqb n 0) → n ≤ 5 → ((f ≡ 0 → ⊥) → 18 ≤ f)
+deal-chain : (refused beyond other good : Bool) (n f : ℕ) → refused ≡ not (eqb n 0) → n ≤ 5 → ((f ≡ 0 → ⊥) → has-place f ≡ true)
     → (cond refused n (cond beyond 6 (cond other 7 0)) ≡ 0 → eqb f 0 ≡ good)
     → cond refused n (cond beyond 6 (cond other 7 (cond good 0 8)))
     ≡ Document03.eight-again (or-else (cond refused n (cond beyond 6 (cond other 7 0))) f)
 unfolding Document03.eight-again or-else
-deal-chain true beyond other good n f e small large same =
-    rw (ne-eqb n 0 (refusing n (sym e)), lt-leb 18 n (omega arith))
-deal-chain false true other good n f e small large same = refl
-deal-chain false false true good n f e small large same = refl
-deal-chain false false false good n f e small large same = rw (← same refl) (go (eqb f 0) refl)
+deal-chain true beyond other good n f e small placed same =
+    rw (ne-eqb n 0 (refusing n (sym e)), small-unplaced n (omega arith))
+deal-chain false true other good n f e small placed same = refl
+deal-chain false false true good n f e small placed same = refl
+deal-chain false false false good n f e small placed same = rw (← same refl) (go (eqb f 0) refl)
   where
-    go : (t : Bool) → eqb f 0 ≡ t → _≡_ {A = ℕ} (cond t 0 8) (cond (leb 18 f) 8 f)
+    go : (t : Bool) → eqb f 0 ≡ t → _≡_ {A = ℕ} (cond t 0 8) (cond (has-place f) 8 f)
     go true h = rw (eqb-true f 0 h)
-    go false h = rw (le-leb 18 f (large (eqb-false f 0 h)))
+    go false h = rw (placed (eqb-false f 0 h))
 
 chain : (good board player : Bool) (n r : ℕ) → board ≡ eqb n 0 →
     cond (not good) 10 (cond (not board) n (cond player 11 r)) ≡ or-else (cond (not good) 10 (cond (not board) n (cond player 11 0))) r
@@ -76,13 +77,14 @@ chain true true false n r e = refl
 chain true false player n r e = rw (← e)
 
 pub same-refusals : Document03.Same-refusals
-unfolding Document03.board-refusal Document03.deal-refusal Document03.key-refusal board-refusal deal-refusal sizes-refusal key-refusal head-refusal numbers-refusal Fault-where-bad
+unfolding Document03.board-refusal Document03.deal-refusal Document03.key-refusal board-refusal deal-refusal sizes-refusal key-refusal head-refusal
+    numbers-refusal Fault-where-bad
 same-refusals =
     record {
       board = λ b. refl;
       deal = λ b l.
           deal-chain _ (leb (b .n) (l .point)) (not (lent-fits b (length (l .value)) (length (l .arrays)) (length (l .seeds)) (length (l .words))))
-          (arrays-good (grid-rows b) 0 b (l .point) (l .arrays)) (board-refusal b) (lent-fault b l .number) refl (board-most b) (fault-least b l)
+          (arrays-good (grid-rows b) 0 b (l .point) (l .arrays)) (board-refusal b) (lent-fault b l .number) refl (board-most b) (fault-placed b l)
           (λ none. fault-where-bad b (l .point) (l .arrays) (sizes-fit b l none .arrays));
       key = λ bs. let h = head-in bs in chain (h .good) (eqb (board-refusal (h .board)) 0) (leb (h .board .p) (h .player)) (board-refusal (h .board)) _ refl;
     }

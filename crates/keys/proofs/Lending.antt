@@ -5,10 +5,10 @@ use Prim.Native.Nat.{ℕ, _*_, _-_, _≤_, _<_}
 use native.Mathlib.Omega.{arith}
 use lib.Dec.{ltb, leb, eqb}
 use lib.ListN.{length}
-use borrow.Author.Tests.{eqb-true, leb-false, not-false}
+use borrow.Author.Tests.{eqb-true, leb-true, leb-false, le-leb, lt-leb, not-false}
 use Rattle.xor.proofs.Laws.{and-left, and-right}
 use Rattle.grid.specs.Grid.{Board, columns, grid-rows, row-long, players-fit, positions-fit, width-fits, value-fits, board-refusal, arrays-good}
-use Rattle.grid.specs.Faults.{Place-is-first}
+use Rattle.grid.specs.Faults.{has-place, Place-is-first}
 use Rattle.grid.proofs.Faults.{no-fault-good, place-is-first}
 use Rattle.keys.specs.Keys.{Lent, lent-fits, sizes-refusal, lent-fault, deal-refusal}
 use Rattle.keys.proofs.Accepted.{passed, refusing, neither}
@@ -35,10 +35,18 @@ sizes-most b l =
     (chosen-most (leb (b .n) (l .point)) 6 _ 7 (omega arith)
     (chosen-most (not (lent-fits b (length (l .value)) (length (l .arrays)) (length (l .seeds)) (length (l .words)))) 7 0 7 (omega arith) (omega arith)))
 
--- a fault's number is one of the three
-pub fault-least : (b : Board) (l : Lent) → (lent-fault b l .number ≡ 0 → ⊥) → 18 ≤ lent-fault b l .number
+-- a fault's number is one of the three, which have a place, and no number below them has
+pub fault-placed : (b : Board) (l : Lent) → (lent-fault b l .number ≡ 0 → ⊥) → has-place (lent-fault b l .number) ≡ true
 unfolding Place-is-first
-fault-least b l some = place-is-first b (l .point) (l .arrays) some .one-of-three .0
+fault-placed b l some =
+    let three = place-is-first b (l .point) (l .arrays) some .one-of-three in
+    rw (le-leb 18 (lent-fault b l .number) (three .0), le-leb (lent-fault b l .number) 20 (three .1))
+
+pub small-unplaced : (n : ℕ) → n < 18 → has-place n ≡ false
+small-unplaced n h = rw (lt-leb 18 n h)
+
+pub placed-large : (n : ℕ) → has-place n ≡ true → 18 ≤ n
+placed-large n h = leb-true 18 n (and-left (leb 18 n) (leb n 20) h)
 
 -- WHAT IS LEFT: what 1 to 7 leave
 pub record Sizes-fit (b : Board) (l : Lent) : Type 0 where

@@ -1,6 +1,7 @@
 -- Document 03's own text, word for word, of what Keys.antt and Promise.antt say otherwise: opening, which read the words from the whole
--- body, the refusals, which did not share their parts and had 8 for every fault of an array, and `Rule-good`, which asked good rows of every list. `Same-opening` says that this opening is `opened` of Keys.antt at every square;
--- then come document 03's statements under its own names. Assumes nothing: these are definitions and statements.
+-- body, the refusals, which did not share their parts and had 8 for every fault of an array, and `Rule-good`, which asked good rows of every
+-- list. `Same-opening` says that this opening is `opened` of Keys.antt at every square; then come document 03's statements under its own
+-- names. Assumes nothing: these are definitions and statements.
 use mathlib.Core.Path.{_≡_}
 use mathlib.Core.Bool.{true, _&&_, not, cond}
 use mathlib.Core.List.{List}
@@ -10,6 +11,7 @@ use lib.ListN.{length, getD, take, drop}
 use Rattle.xor.specs.Xor.{xors, zeros, bytes-good}
 use Rattle.grid.specs.Grid
 use Rattle.grid.specs.Grid.{Board, columns, grid-rows, row-long, arrays-good, bit, cell, share, joined-from}
+use Rattle.grid.specs.Faults.{has-place}
 use Rattle.keys.specs.Keys
 use Rattle.keys.specs.Keys.{header, mark-bytes, marks-good, stride, grid-row-part, head-in, Lent, dealing, key, key-long, table, parts-in}
 use Rattle.keys.specs.Promise.{lent-good, entry, dealt-parts}
@@ -64,7 +66,7 @@ key-refusal bs =
 
 -- 8 is given no more: 18, 19 and 20 of document 02, (i), "all take the place of 8"
 unfoldable pub eight-again : (number : ℕ) → ℕ
-eight-again n = cond (leb 18 n) 8 n
+eight-again n = cond (has-place n) 8 n
 
 -- THE REFUSALS ARE THESE, of every board, every dealing and every list of numbers
 pub record Same-refusals : Type 0 where

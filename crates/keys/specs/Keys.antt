@@ -1,7 +1,8 @@
 -- Keys as bytes (document 01, "Bytes of a key", Deal and Check key): numbers in groups, headers, what Deal writes, what Check key refuses,
--- a key's parts and its full table, and opening a square alone. These are document 03's definitions word for word, but for opening:
--- document 01 opens from the header and the part that begins at the square's grid row, so `opened` here reads nothing else. Document 03's
--- own text of it stands in Document03.antt, whose `Same-opening` says that the two are equal. Quotations are document 01's.
+-- a key's parts and its full table, and opening a square alone. These are document 03's definitions word for word, but for opening and for
+-- Deal's 18, 19 and 20: document 01 opens from the header and the part that begins at the square's grid row, so `opened` here reads nothing
+-- else, and document 02, (i), puts the three in the place of 8. Document 03's own text of both stands in Document03.antt, whose `Same-opening`
+-- and `Same-refusals` tie the two together. Quotations are document 01's, or 02's where it says so.
 -- Assumes nothing: these are definitions.
 use mathlib.Core.Path.{_≡_}
 use mathlib.Core.Bool.{Bool, true, false, _&&_, not, cond}
@@ -11,7 +12,7 @@ use lib.Dec.{ltb, leb, eqb}
 use lib.ListN.{length, getD, take, drop}
 use Rattle.xor.specs.Xor.{xors, zeros}
 use Rattle.grid.specs.Grid.{Board, board, columns, grid-rows, row-long, board-refusal, arrays-long, seeds-long, words-long, Dealing, all-words, bit, cell}
-use Rattle.grid.specs.Faults.{arrays-fault}
+use Rattle.grid.specs.Faults.{has-place, arrays-fault}
 use Rattle.grid.specs.declared.fault.Fault.{Fault}
 
 -- NUMBERS AND HEADERS
@@ -219,13 +220,13 @@ sizes-refusal b l =
 abbrev pub lent-fault : Board → Lent → Fault
 lent-fault b l = arrays-fault b (l .point) (l .arrays)
 
--- then 18, 19, 20, which "all take the place of 8"
+-- then 18, 19, 20 of document 02, which "all take the place of 8"
 unfoldable pub deal-refusal : Board → Lent → ℕ
 deal-refusal b l = or-else (sizes-refusal b l) (lent-fault b l .number)
 
--- "each comes with the grid row and column of the first fault"; no other number has a place
+-- document 02: "each comes with the grid row and column of the first fault"; no other number has a place
 unfoldable pub deal-place : Board → Lent → List ℕ
-deal-place b l = cond (leb 18 (deal-refusal b l)) (lent-fault b l .«grid_row» ∷ lent-fault b l .column ∷ []) []
+deal-place b l = cond (has-place (deal-refusal b l)) (lent-fault b l .«grid_row» ∷ lent-fault b l .column ∷ []) []
 
 -- WHAT CHECK KEY REFUSES
 

@@ -1,4 +1,4 @@
-// The operations that a board and a phone call. None requires anything: each answers document 01's number, the first that fits, and its
+// The operations that a board and a phone call. None requires anything: each answers the number of documents 01 and 02, the first that fits, and its
 // contract, a definition of the crate call_answers, fixes the number, the value and every lent byte, of refused calls too. A refused call changes nothing
 // that is lent. Deal, the openings and the joins are crates of their own, passed on here, as are Check key and Held seed of the crate keys.
 // Assumes nothing.

@@ -19,7 +19,7 @@ use Rattle.grid.specs.declared.fault.Fault.{Fault}
 use Rattle.call_answers.specs.Answers.{says, told, Deal-tells}
 use Rattle.call_answers.specs.declared.Answer.{Answer}
 use Rattle.call_answers.specs.declared.DealAnswer.{DealAnswer}
-use Rattle.call_answers.proofs.Telling.{plain-small, placed-large}
+use Rattle.call_answers.proofs.Telling.{plain-unplaced, faulty-placed}
 use Rattle.nosingginger_c.specs.C.{Through, Value-put, Deal-places, Check-says, Held-says}
 
 pub value-kept : (n v o : ℕ) → (n ≡ 0 → ⊥) → Value-put n v n o o
@@ -48,14 +48,14 @@ module _ (p n m w a : ℕ) (v cs ss ws o z f : List ℕ) where
   unfolding Deal-places told
   deal-plain k d e tells =
       let plain = subst (λ (x : DealAnswer). Deal-tells p n m w a v cs ss ws (told x) o z) e tells in
-      rw (plain-small p n m w a v cs ss ws o z k plain) (plain, refl)
+      rw (plain-unplaced p n m w a v cs ss ws o z k plain) (plain, refl)
 
   pub deal-placed : (g : Fault) (d : DealAnswer) → d ≡ DealAnswer.Fault g → Deal-tells p n m w a v cs ss ws (told d) o z
       → Deal-places p n m w a v cs ss ws (g .number) o z f (g .«grid_row» ∷ g .column ∷ [])
   unfolding Deal-places told
   deal-placed g d e tells =
       let placed = subst (λ (x : DealAnswer). Deal-tells p n m w a v cs ss ws (told x) o z) e tells in
-      rw (placed-large p n m w a v cs ss ws o z g placed) (placed, refl)
+      rw (faulty-placed p n m w a v cs ss ws o z g placed) (placed, refl)
 
 pub check-refused : (ks o : List ℕ) (n : ℕ) → KeyCheck.Refused n ≡ checked-by (key-refusal ks) ks → Check-says ks n o o
 unfolding Check-says checked-as

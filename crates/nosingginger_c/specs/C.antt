@@ -4,7 +4,8 @@ use mathlib.Core.Path.{_≡_}
 use mathlib.Core.Bool.{cond}
 use mathlib.Core.List.{List, []}
 use Prim.Native.Nat.{ℕ}
-use lib.Dec.{leb, eqb}
+use lib.Dec.{eqb}
+use Rattle.grid.specs.Faults.{has-place}
 use Rattle.call_answers.specs.declared.Answer.{Answer}
 use Rattle.call_answers.specs.Answers.{Deal-tells}
 use Rattle.keys.specs.Held.{held-seed-place, Held-at}
@@ -21,7 +22,7 @@ Value-put n v r o z = (r ≡ n) × (z ≡ cond (eqb n 0) v o)
 -- DEAL: the number returned, and the grid row and the column of its place, where it is 18, 19 or 20, or what stood there
 unfoldable pub Deal-places : (p n m w point : ℕ) → (value arrays seeds words : List ℕ) → (r : ℕ) → (out out-now old new : List ℕ) → Type 0
 Deal-places p n m w a v cs ss ws r o z f g =
-    Deal-tells p n m w a v cs ss ws (record { number = r; place = cond (leb 18 r) g [] }) o z × (g ≡ cond (leb 18 r) g f)
+    Deal-tells p n m w a v cs ss ws (record { number = r; place = cond (has-place r) g [] }) o z × (g ≡ cond (has-place r) g f)
 
 -- CHECK KEY: the number returned, and the header's five numbers, or what stood there
 unfoldable pub Check-says : (key : List ℕ) → (r : ℕ) → (old new : List ℕ) → Type 0

@@ -17,7 +17,9 @@ pub extern "C" fn nsg_deal(
     keys: &mut [u8],
     fault: &mut [u32; 2],
 ) -> u32
-    ensures { λ r. ⌜ Deal-places players positions width «value_bytes» point (now (value .entry)) (now (arrays .entry)) (now (seeds .entry)) (now (words .entry)) r (now (keys .entry)) (now (keys .exit)) (now (fault .entry)) (now (fault .exit)) ⌝ }
+    ensures { λ r. ⌜ Deal-places players positions width «value_bytes» point
+        (now (value .entry)) (now (arrays .entry)) (now (seeds .entry)) (now (words .entry)) r
+        (now (keys .entry)) (now (keys .exit)) (now (fault .entry)) (now (fault .exit)) ⌝ }
 {
     match nosingginger::deal(
         players,

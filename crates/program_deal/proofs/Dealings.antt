@@ -164,8 +164,10 @@ cut b a seeds words xs s w =
     let held : words - seeds ≡ seeds-long b = omega arith in
     rw (arrays, held, all-behind words xs, w, s)
 
-pub deal-cut : (b : Board) (a seeds words : ℕ) (xs : List ℕ) (d : DealAnswer) (r : ℕ) (o z : List ℕ) → seeds ≡ b .w + arrays-long b → words ≡ seeds + seeds-long b →
-    Deal-tells (b .p) (b .n) (b .wide) (b .w) a (take (b .w) xs) (take (seeds - b .w) (drop (b .w) xs)) (take (words - seeds) (drop seeds xs)) (take (length xs - words) (drop words xs)) (told d) o z →
+pub deal-cut : (b : Board) (a seeds words : ℕ) (xs : List ℕ) (d : DealAnswer) (r : ℕ) (o z : List ℕ) → seeds ≡ b .w + arrays-long b
+    → words ≡ seeds + seeds-long b →
+    Deal-tells (b .p) (b .n) (b .wide) (b .w) a (take (b .w) xs) (take (seeds - b .w) (drop (b .w) xs)) (take (words - seeds) (drop seeds xs))
+    (take (length xs - words) (drop words xs)) (told d) o z →
     r ≡ told d .number → Deals b (lent-in b a xs) r o z
 unfolding Deals
 deal-cut b a seeds words xs d r o z s w tells e =

@@ -8,9 +8,9 @@ unfolding Deals-place
 deals-place p n m w a v cs ss ws r o z tells =
     record {
       never-8 = never-8 p n m w a v cs ss ws r o z tells;
-      no-place = no-place p n m w a v cs ss ws r o z tells;
       two-numbers = two-numbers p n m w a v cs ss ws r o z tells;
       first = first-told p n m w a v cs ss ws r o z tells;
+      no-place = no-place p n m w a v cs ss ws r o z tells;
     }
 
 pub bad-arrays : Bad-arrays

@@ -2,10 +2,11 @@
 -- Assumes nothing.
 use mathlib.Core.Path.{_≡_}
 use mathlib.Core.List.{List, []}
-use Prim.Native.Nat.{ℕ, _≤_, _<_}
+use Prim.Native.Nat.{ℕ}
+use mathlib.Core.Bool.{true, false}
 use lib.ListN.{length, getD}
 use Rattle.grid.specs.Grid.{Board, board}
-use Rattle.grid.specs.Faults.{First-fault}
+use Rattle.grid.specs.Faults.{has-place, First-fault}
 unfoldable pub use Rattle.grid.specs.Faults.{Fault-where-bad, Place-is-first}
 use Rattle.call_answers.specs.Answers.{Told, Deal-tells}
 unfoldable pub use Rattle.call_answers.specs.Answers.{Told-once}
@@ -14,12 +15,12 @@ unfoldable pub use Rattle.call_answers.specs.Answers.{Told-once}
 pub record Place-told (b : Board) (point : ℕ) (arrays : List ℕ) (r : Told) : Type 0 where
   -- 8 "is no longer given"
   pub never-8 : r .number ≡ 8 → ⊥
-  -- a number below 18 comes without a place
-  pub no-place : r .number < 18 → r .place ≡ []
-  -- any other "comes with the grid row and column of the first fault"
-  pub two-numbers : 18 ≤ r .number → length (r .place) ≡ 2
-  pub first : 18 ≤ r .number →
+  -- 18, 19 and 20, each "comes with the grid row and column of the first fault"
+  pub two-numbers : has-place (r .number) ≡ true → length (r .place) ≡ 2
+  pub first : has-place (r .number) ≡ true →
       First-fault b point arrays (record { number = r .number; «grid_row» = getD (r .place) 0 0; column = getD (r .place) 1 0 })
+  -- and no other number comes with a place
+  pub no-place : has-place (r .number) ≡ false → r .place ≡ []
 
 unfoldable pub Deals-place : Type 0
 Deals-place =

@@ -32,7 +32,7 @@ struct Refused {
 
 impl From<Refusal> for Refused {
     fn from(refusal: Refusal) -> Refused {
-        Refused { number: refusal.number(), place: refusal.place() }
+        Refused { number: refusal.number(), place: refusal.bad_column() }
     }
 }
 

@@ -68,7 +68,8 @@ unfolding board
 put-front-requires c κs =
     let s = c .before .before .before .before .before .before .before in
     let f = facts s in
-    (f .sizes .accepted, omega arith, f .sizes .arrays, f .sizes .seeds, front-room (board-of (s .args .board)) (lent-to s) f (length (now (s .args .keys))) (s .pre .1))
+    let sizes = f .sizes in
+    (sizes .accepted, omega arith, sizes .arrays, sizes .seeds, front-room (board-of (s .args .board)) (lent-to s) f (length (now (s .args .keys))) (s .pre .1))
 
 put-last-word-requires : tie.Need-put-last-word-requires Inv-loop μ-loop
 unfolding board

@@ -101,10 +101,14 @@ column-fault-requires : tie.Need-column-fault-requires Inv-loop μ-loop
 column-fault-requires c κs = c .before .before .before .before .before .before .before .pre .0
 
 cast-t19 : tie.Need-cast-t19 Inv-loop μ-loop
-cast-t19 c = omega (arith, few-places (c .before .before .before .before), div-le-self (c .before .before .before .before .before .loop .place) (c .before .before .before .before .before .before .before .columns .result))
+cast-t19 c =
+    let turn = c .before .before .before .before in
+    omega (arith, few-places turn, div-le-self (turn .before .loop .place) (turn .before .before .before .columns .result))
 
 cast-t20 : tie.Need-cast-t20 Inv-loop μ-loop
-cast-t20 c = omega (arith, few-places (c .before .before .before .before), mod-le (c .before .before .before .before .before .loop .place) (c .before .before .before .before .before .before .before .columns .result))
+cast-t20 c =
+    let turn = c .before .before .before .before in
+    omega (arith, few-places turn, mod-le (turn .before .loop .place) (turn .before .before .before .columns .result))
 
 add-place : tie.Need-add-place Inv-loop μ-loop
 add-place c = omega arith

@@ -82,8 +82,10 @@ unfolding board
 returns c =
     let seeds = c .before .before .before .before .before .before .before .before .before in
     let a = c .before .before .before .before .before .before .before .before .before .before .before .before .before .before .args in
-    deal-cut (board-of (a .board)) (a .point) _ _ (now (a .rest)) _ _ (now (a .keys)) _ (ap (λ (n : ℕ). a .board .«value_bytes» + n) (seeds .before .arrays-length .ensures))
-    (ap (λ (n : ℕ). a .board .«value_bytes» + seeds .before .arrays-length .result + n) (seeds .seeds-length .ensures)) (c .before .before .before .deal .ensures) (c .deal-number .ensures)
+    deal-cut (board-of (a .board)) (a .point) _ _ (now (a .rest)) _ _ (now (a .keys)) _
+    (ap (λ (n : ℕ). a .board .«value_bytes» + n) (seeds .before .arrays-length .ensures))
+    (ap (λ (n : ℕ). a .board .«value_bytes» + seeds .before .arrays-length .result + n) (seeds .seeds-length .ensures))
+    (c .before .before .before .deal .ensures) (c .deal-number .ensures)
 
 pub deal-parts-spec : {M : Type 1} → statement M
 deal-parts-spec =

@@ -13,7 +13,8 @@ use Rattle.witness.proofs.deal_open_join.Statement.{statement}
 use Rattle.witness.proofs.deal_open_join.Tie as tie
 
 -- Deal as it was asked
-abbrev asked : (c : tie.After-deal-number) → let args = c .before .before .before .before .before .before .before .before .before .before .before .before .before .args in
+abbrev asked : (c : tie.After-deal-number) →
+    let args = c .before .before .before .before .before .before .before .before .before .before .before .before .before .args in
     Asked (args .players) (args .positions) (args .width) (args .value-bytes) (args .point) (now (args .value)) (now (args .arrays)) (now (args .seeds))
     (now (args .words)) (now (args .keys)) (now (args .table)) (now (args .joined)) (c .deal-number .result)
 asked c =
