@@ -1,6 +1,7 @@
--- What the operations answer and leave behind: document 03's Entry, word for word but for a name, `width-refusal`, and for Deal's place,
--- which is document 02's, (i). Each is an equation that fixes the number, the value and every lent byte, refused calls too. Join keys has its
--- own file; Check key and Held seed answer as the crate keys says. Assumes nothing: these are definitions.
+-- What the operations answer and leave behind: document 03's Entry, word for word but for a name, `width-refusal`, and
+-- for Deal's place, which is document 02's, (i). Each is an equation that fixes the number, the value and every lent
+-- byte, refused calls too. Join keys has its own file; Check key and Held seed answer as the crates key_header and keys
+-- say. Assumes nothing: these are definitions.
 use mathlib.Core.Path.{_≡_}
 use mathlib.Core.Bool.{not, cond}
 use mathlib.Core.List.{List, [], _∷_}
@@ -13,7 +14,8 @@ use Rattle.chacha20.specs.Expand.{expand}
 use Rattle.seed_rows.specs.Rows.{rule}
 use Rattle.grid.specs.Grid.{board, board-refusal, players-fit, positions-fit, value-fits}
 use Rattle.grid.specs.Width.{width, sensor-position}
-use Rattle.keys.specs.Keys.{or-else, lent, deal-refusal, deal-place, keys-from, key-long, key-refusal, head-in, opened, table}
+use Rattle.keys.specs.Keys.{or-else, lent, deal-refusal, deal-place, keys-from, key-long, key-refusal}
+use Rattle.keys.specs.Keys.{head-in, opened, table}
 use Rattle.call_answers.specs.declared.Answer.{Answer}
 use Rattle.call_answers.specs.declared.DealAnswer.{DealAnswer}
 use Rattle.grid.specs.declared.fault.Fault.{Fault}
@@ -49,7 +51,8 @@ unfoldable pub Told-once : Type 0
 Told-once = (x y : DealAnswer) → told x ≡ told y → x ≡ y
 
 -- DEAL, with its place: "each comes with the grid row and column of the first fault", and no other number does
-unfoldable pub Deal-tells : (p n m w point : ℕ) → (value arrays seeds words : List ℕ) → Told → (out out-now : List ℕ) → Type 0
+unfoldable pub Deal-tells : (p n m w point : ℕ) → (value arrays seeds words : List ℕ) → Told → (out out-now : List ℕ)
+    → Type 0
 Deal-tells p n m w a v cs ss ws r o z =
     (r .place ≡ deal-place (board p n m w) (lent a v cs ss ws)) × Deal-says p n m w a v cs ss ws (r .number) o z
 

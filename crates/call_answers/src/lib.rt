@@ -1,5 +1,5 @@
-// What the operations answer: the refusal numbers by name, a number with a value, and what Deal answers. The contracts of all operations but
-// Join keys stand in specs/Answers.antt. Assumes nothing.
+// What the operations answer: the refusal numbers by name, a number with a value, and what Deal answers. The contracts
+// of all operations but Join keys stand in specs/Answers.antt. Assumes nothing.
 ghost use mathlib.Core.Path.{_≡_};
 ghost use Rattle.call_answers.specs.Answers.{told};
 
@@ -34,7 +34,8 @@ pub fn accepted(value: u32) -> Answer
     }
 }
 
-// What Deal answers: 0, or the number of a refusal that has no place; or what is wrong with the arrays first, and where.
+// What Deal answers: 0, or the number of a refusal that has no place; or what is wrong with the arrays first, and
+// where: 18, 19 or 20 with its grid row and column.
 pub enum DealAnswer {
     Number(u32),
     Fault(Fault),

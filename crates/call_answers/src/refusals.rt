@@ -1,5 +1,5 @@
-// The refusal numbers of documents 01 and 02 by name, in one place. The numbers of a board and of its arrays stand with boards, those of a key
-// with keys.
+// The refusal numbers of documents 01 and 02 by name, in one place. The numbers of a board and of its arrays stand with
+// boards, those of a key with keys.
 // Assumes nothing.
 pub use grid::board::ACCEPTED;
 pub use grid::board::REFUSED_GRID_ROWS;

@@ -13,8 +13,7 @@ use Rattle.keys.specs.Keys.{Lent, key-long, sizes-refusal, lent-fault, deal-ref
 use Rattle.keys.proofs.Accepted.{first-fits, next-fits}
 use Rattle.keys.proofs.Lending.{sizes-most, fault-placed, small-unplaced, Sizes-fit, sizes-fit}
 use Rattle.deal_keys.specs.Dealt.{dealt-keys}
-use Rattle.call_answers.specs.Answers.{Deal-says, told, Deal-tells}
-use Rattle.call_answers.specs.declared.DealAnswer.{DealAnswer}
+use Rattle.call_answers.specs.Answers.{Deal-says}
 use Rattle.writer.specs.Written.{in-front}
 use Rattle.call_answers.proofs.Answering.{put-number, put-done}
 
@@ -61,33 +60,40 @@ module _ (b : Board) (l : Lent) where
       pub sizes-none : not fit ≡ false → 0 ≡ sizes-refusal b l
       sizes-none h = sym (behind ∙ rw (not-false fit h))
 
-  -- WHERE a number has a place
-  pub placed : (f : Fault) → sizes-refusal b l ≡ 0 → f ≡ lent-fault b l → (f .number ≡ 0 → ⊥)
-      → (deal-refusal b l ≡ f .number) × (deal-place b l ≡ f .«grid_row» ∷ f .column ∷ [])
-  unfolding deal-refusal deal-place
-  placed f none e some =
-      let number = next-fits (sizes-refusal b l) (lent-fault b l .number) none in
-      rw e (number, rw (number, fault-placed b l (λ z. some (rw e z))))
-
-  pub unplaced : (n : ℕ) → deal-refusal b l ≡ n → n < 18 → [] ≡ deal-place b l
-  unfolding deal-place
-  unplaced n e h = rw (e, small-unplaced n h)
-
-  -- 1 to 7 refuse as they stand
-  pub by-sizes : (r : ℕ) → r ≡ sizes-refusal b l → (r ≡ 0 → ⊥) → deal-refusal b l ≡ r
+  -- WHAT DEAL'S NUMBER IS: 1 to 7 refuse as they stand
+  by-sizes : (r : ℕ) → r ≡ sizes-refusal b l → (r ≡ 0 → ⊥) → deal-refusal b l ≡ r
   unfolding deal-refusal
   by-sizes r e h = first-fits (sizes-refusal b l) _ (λ z. h (e ∙ z)) ∙ sym e
 
-  -- and where neither these nor the arrays refuse, nothing does but 9
   module _ (r : ℕ) (asked : r ≡ sizes-refusal b l) (none : r ≡ 0) where
     pub sizes-in : Sizes-fit b l
     sizes-in = sizes-fit b l (sym asked ∙ none)
 
-    pub none-so-far : (f : Fault) → f ≡ lent-fault b l → f .number ≡ 0 → deal-refusal b l ≡ 0
+    -- where they do not, the fault's does, or nothing so far
+    by-fault : (f : Fault) → f ≡ lent-fault b l → deal-refusal b l ≡ f .number
     unfolding deal-refusal
-    none-so-far f e fine = next-fits (sizes-refusal b l) _ (sym asked ∙ none) ∙ sym (ap (λ (g : Fault). g .number) e) ∙ fine
+    by-fault f e = next-fits (sizes-refusal b l) _ (sym asked ∙ none) ∙ sym (ap (λ (g : Fault). g .number) e)
 
--- WHAT DEAL SAYS
+    pub none-so-far : (f : Fault) → f ≡ lent-fault b l → f .number ≡ 0 → deal-refusal b l ≡ 0
+    none-so-far f e fine = by-fault f e ∙ fine
+
+    -- ITS PLACE is the fault's
+    pub fault-place : (f : Fault) → f ≡ lent-fault b l → (f .number ≡ 0 → ⊥) → f .«grid_row» ∷ f .column ∷ [] ≡ deal-place b l
+    unfolding deal-place
+    fault-place f e some = rw (by-fault f e, e, fault-placed b l (λ z. some (rw e z)))
+
+  -- and no other number has one
+  unplaced : (n : ℕ) → deal-refusal b l ≡ n → n < 18 → [] ≡ deal-place b l
+  unfolding deal-place
+  unplaced n e h = rw (e, small-unplaced n h)
+
+  pub sizes-place : (r : ℕ) → r ≡ sizes-refusal b l → (r ≡ 0 → ⊥) → [] ≡ deal-place b l
+  sizes-place r e h = unplaced r (by-sizes r e h) (omega (arith, sizes-most b l))
+
+  pub no-place : deal-refusal b l ≡ 0 → [] ≡ deal-place b l
+  no-place none = unplaced 0 none (omega arith)
+
+-- WHAT DEAL SAYS: the number and every lent byte
 
 module _ (p n m w a : ℕ) (v cs ss ws o : List ℕ) where
   abbrev on : Board
@@ -100,28 +106,21 @@ module _ (p n m w a : ℕ) (v cs ss ws o : List ℕ) where
   unfolding Deal-says
   refused-by r e h = put-number _ r _ o (first-fits (deal-refusal on l) _ (λ z. h (sym e ∙ z)) ∙ e) h
 
-  pub deal-refused : (r : ℕ) → r ≡ sizes-refusal on l → (r ≡ 0 → ⊥) → Deal-tells p n m w a v cs ss ws (told (DealAnswer.Number r)) o o
-  unfolding Deal-tells told
-  deal-refused r e h =
-      let is = by-sizes on l r e h in
-      (unplaced on l r is (omega (arith, sizes-most on l)), refused-by r is h)
+  pub sizes-refused : (r : ℕ) → r ≡ sizes-refusal on l → (r ≡ 0 → ⊥) → Deal-says p n m w a v cs ss ws r o o
+  sizes-refused r e h = refused-by r (by-sizes on l r e h) h
 
-  pub deal-faulty : (r : ℕ) (f : Fault) → r ≡ sizes-refusal on l → r ≡ 0 → f ≡ lent-fault on l → (f .number ≡ 0 → ⊥)
-      → Deal-tells p n m w a v cs ss ws (told (DealAnswer.Fault f)) o o
-  unfolding Deal-tells told
-  deal-faulty r f asked none e some =
-      let both = placed on l f (sym asked ∙ none) e some in (sym (both .1), refused-by (f .number) (both .0) some)
+  pub fault-refused : (r : ℕ) (f : Fault) → r ≡ sizes-refusal on l → r ≡ 0 → f ≡ lent-fault on l → (f .number ≡ 0 → ⊥)
+      → Deal-says p n m w a v cs ss ws (f .number) o o
+  fault-refused r f asked none e some = refused-by (f .number) (by-fault on l r asked none f e) some
 
   module _ (none : deal-refusal on l ≡ 0) (long : ℕ) (k : long ≡ key-long on) where
     room-number : or-else (deal-refusal on l) (cond (ltb (length o) (p * key-long on)) 9 0) ≡ cond (ltb (length o) (p * long)) 9 0
     room-number = next-fits (deal-refusal on l) _ none ∙ rw k
 
-    pub deal-room-refused : length o < p * long → Deal-tells p n m w a v cs ss ws (told (DealAnswer.Number 9)) o o
-    unfolding Deal-says Deal-tells told
-    deal-room-refused h =
-        (unplaced on l 0 none (omega arith), put-number _ 9 _ o (room-number ∙ rw (lt-ltb (length o) (p * long) h)) (λ z. omega arith))
+    pub room-refused : length o < p * long → Deal-says p n m w a v cs ss ws 9 o o
+    unfolding Deal-says
+    room-refused h = put-number _ 9 _ o (room-number ∙ rw (lt-ltb (length o) (p * long) h)) (λ z. omega arith)
 
-    pub dealt : (z : List ℕ) → p * long ≤ length o → z ≡ in-front (dealt-keys on l) o
-        → Deal-tells p n m w a v cs ss ws (told (DealAnswer.Number 0)) o z
-    unfolding Deal-says Deal-tells told dealt-keys board
-    dealt z h e = (unplaced on l 0 none (omega arith), put-done _ _ 0 o z (room-number ∙ rw (le-ltb (length o) (p * long) h)) refl e)
+    pub dealt : (z : List ℕ) → p * long ≤ length o → z ≡ in-front (dealt-keys on l) o → Deal-says p n m w a v cs ss ws 0 o z
+    unfolding Deal-says dealt-keys board
+    dealt z h e = put-done _ _ 0 o z (room-number ∙ rw (le-ltb (length o) (p * long) h)) refl e

@@ -1,5 +1,5 @@
-// Dealing: the refusals 1 to 7, 18 to 20 with their place, and 9, in this order, and the keys of all players. Nothing is written before all is
-// asked. Assumes nothing.
+// Dealing: the refusals 1 to 7, 18 to 20 with their place, and 9, in this order, and the keys of all players. Nothing
+// is written before all is asked. Assumes nothing.
 use call_answers::DealAnswer;
 use call_answers::refusals::ACCEPTED;
 use call_answers::refusals::REFUSED_LENT;
@@ -40,7 +40,8 @@ fn sizes_refusal(
     seeds: &[u8],
     words: &[u8],
 ) -> u32
-    ensures { λ r. ⌜ r ≡ sizes-refusal (board-of board) (lent point (now (value .entry)) (now (arrays .entry)) (now (seeds .entry)) (now (words .entry))) ⌝ }
+    ensures { λ r. ⌜ r ≡ sizes-refusal (board-of board)
+        (lent point (now (value .entry)) (now (arrays .entry)) (now (seeds .entry)) (now (words .entry))) ⌝ }
 {
     let refusal = board.refusal();
     if refusal != ACCEPTED {
@@ -55,7 +56,8 @@ fn sizes_refusal(
     ACCEPTED
 }
 
-// DEAL: 1 to 7, 18 to 20, 9 in their order; writes the keys of all players one after another, player 0 first, and nothing before all is asked.
+// DEAL: 1 to 7, 18 to 20, 9 in their order; writes the keys of all players one after another, player 0 first, and
+// nothing before all is asked.
 pub fn deal(
     players: u32,
     positions: u32,

@@ -1,13 +1,14 @@
--- What is wrong with the arrays of a dealing, and where first: document 02, (i), whose sentences are quoted. That the place found is the
--- first, and that there is one exactly where the arrays are not as they must be, are statements whose proofs are owed.
--- Assumes nothing: these are definitions.
+-- What is wrong with the arrays of a dealing, and where first: document 02, (i), whose sentences are quoted. That the
+-- place found is the first, and that there is one exactly where the arrays are not as they must be, are statements,
+-- which proofs/Faults.antt proves. Assumes nothing: these are definitions and statements.
 use mathlib.Core.Path.{_≡_}
 use mathlib.Core.Bool.{Bool, true, false, _&&_, not, cond}
 use mathlib.Core.List.{List}
 use Prim.Native.Nat.{ℕ, zero, suc, _*_, _/_, _%_, _^_, _≤_, _<_}
 use lib.Dec.{leb, eqb}
 use lib.ListN.{length, take, drop}
-use Rattle.grid.specs.Grid.{Board, columns, grid-rows, arrays-long, column, is-odd, same-parity, member, arrays-good}
+use Rattle.grid.specs.Grid.{Board, columns, grid-rows, arrays-long, column}
+use Rattle.grid.specs.Grid.{is-odd, same-parity, member, arrays-good}
 use Rattle.grid.specs.declared.fault.Fault.{Fault}
 
 -- AT ONE COLUMN of an array, by the columns that stand before it
@@ -27,7 +28,8 @@ stood-earlier before c = member c before
 -- whether a number fits a column
 unfoldable pub fits : Board → (odd : Bool) → (before : List ℕ) → (column number : ℕ) → Bool
 fits b o before c n =
-    cond (eqb n 18) (bit-beyond b c) (cond (eqb n 19) (wrong-parity o c) (cond (eqb n 20) (stood-earlier before c) false))
+    cond (eqb n 18) (bit-beyond b c)
+    (cond (eqb n 19) (wrong-parity o c) (cond (eqb n 20) (stood-earlier before c) false))
 
 -- "At one column the order is as follows": the first number that fits, or 0
 unfoldable pub column-fault : Board → (odd : Bool) → (before : List ℕ) → (column : ℕ) → ℕ
@@ -38,7 +40,8 @@ column-fault b o before c =
 abbrev pub has-place : (number : ℕ) → Bool
 has-place n = leb 18 n && leb n 20
 
--- AT ONE PLACE of all arrays: column j of grid row g, where the point's grid row has an odd array and all others have even ones
+-- AT ONE PLACE of all arrays: column j of grid row g, where the point's grid row has an odd array and all others have
+-- even ones
 
 -- the columns before it in its array
 abbrev pub before : Board → (arrays : List ℕ) → (g j : ℕ) → List ℕ
@@ -54,7 +57,8 @@ fault-at b a cs g j = column-fault b (eqb g (a / b .wide)) (before b cs g j) (co
 abbrev pub no-fault : Fault
 no-fault = record { number = 0; «grid_row» = 0; column = 0 }
 
--- "THE FIRST FAULT, scanning row by row and column by column": of `left` places from the i-th on, which is column i mod J of grid row i div J
+-- "THE FIRST FAULT, scanning row by row and column by column": of `left` places from the i-th on, which is column i mod
+-- J of grid row i div J
 unfoldable pub fault-from : (left i : ℕ) → Board → (point : ℕ) → (arrays : List ℕ) → Fault
 fault-from zero i b a cs = no-fault
 fault-from (suc k) i b a cs =
@@ -88,4 +92,5 @@ pub record First-fault (b : Board) (a : ℕ) (cs : List ℕ) (f : Fault) : Type 
 
 unfoldable pub Place-is-first : Type 0
 Place-is-first =
-    (b : Board) (a : ℕ) (cs : List ℕ) → (arrays-fault b a cs .number ≡ 0 → ⊥) → First-fault b a cs (arrays-fault b a cs)
+    (b : Board) (a : ℕ) (cs : List ℕ) → (arrays-fault b a cs .number ≡ 0 → ⊥) →
+    First-fault b a cs (arrays-fault b a cs)

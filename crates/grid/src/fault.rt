@@ -1,5 +1,5 @@
-// What can be wrong with a column of an array, by the numbers 18 to 20, and the place of the first such column. Its meaning is
-// specs/Faults.antt. Assumes nothing.
+// What can be wrong with a column of an array, by the numbers 18 to 20, and the place of the first such column. What
+// they mean stands in specs/Faults.antt. Assumes nothing.
 
 // A column has a bit at p or above: the mark of a player who is not there.
 pub const REFUSED_COLUMN_BIT: u32 = 18;
@@ -10,7 +10,8 @@ pub const REFUSED_COLUMN_PARITY: u32 = 19;
 // A column stood earlier in its array.
 pub const REFUSED_COLUMN_TWICE: u32 = 20;
 
-// What is wrong with the arrays of a dealing first, and where: the number, and the grid row and the column of the place. Number 0: nothing.
+// What is wrong with the arrays of a dealing first, and where: the number, and the grid row and the column of the
+// place. Number 0: nothing.
 pub struct Fault {
     pub number: u32,
     pub grid_row: u32,

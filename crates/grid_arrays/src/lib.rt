@@ -1,10 +1,12 @@
-// The check of a dealing's arrays, and their first fault: a column with a bit at p or above (18), of the wrong parity (19), or that stood
-// earlier in its array (20). An array of J columns without a fault holds every column of its parity exactly once. Good arrays are passed in one pass
-// without a branch at each column; where they are not good, the place is looked for column by column.
+// The check of a dealing's arrays, and their first fault: a column with a bit at p or above (18), of the wrong parity
+// (19), or that stood earlier in its array (20). An array of J columns without a fault holds every column of its parity
+// exactly once. Arrays are checked in one pass without a branch at each column; where they are not good, the place is
+// looked for column by column.
 ghost use mathlib.Core.Path.{_≡_};
 ghost use Prim.Native.Nat.{_*_, _%_, _^_};
 ghost use lib.ListN.{length};
-ghost use Rattle.grid.specs.Grid.{board-refusal, columns, grid-rows, bit, member, array-good, arrays-good, arrays-long};
+ghost use Rattle.grid.specs.Grid.{board-refusal, columns, grid-rows, arrays-long};
+ghost use Rattle.grid.specs.Grid.{bit, member, array-good, arrays-good};
 ghost use Rattle.grid.specs.Moving.{turned};
 ghost use Rattle.grid_arrays.specs.Checking.{fitting};
 ghost use Rattle.grid.specs.Code.{board-of};

@@ -1,7 +1,8 @@
--- Document 03's own text, word for word, of what Keys.antt and Promise.antt say otherwise: opening, which read the words from the whole
--- body, the refusals, which did not share their parts and had 8 for every fault of an array, and `Rule-good`, which asked good rows of every
--- list. `Same-opening` says that this opening is `opened` of Keys.antt at every square; then come document 03's statements under its own
--- names. Assumes nothing: these are definitions and statements.
+-- Document 03's own text, word for word, of what Keys.antt and Promise.antt say otherwise: opening, which read the
+-- words from the whole body, the refusals, which did not share their parts and had 8 for every fault of an array, and
+-- `Rule-good`, which asked good rows of every list. `Same-opening` says that this opening is `opened` of Keys.antt at
+-- every square; then come document 03's statements under its own names. Assumes nothing: these are definitions and
+-- statements.
 use mathlib.Core.Path.{_≡_}
 use mathlib.Core.Bool.{true, _&&_, not, cond}
 use mathlib.Core.List.{List}

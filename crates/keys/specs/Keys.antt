@@ -1,9 +1,9 @@
--- Keys as bytes (document 01, "Bytes of a key", Deal and Check key): numbers in groups, headers, what Deal writes, what Check key refuses,
--- a key's parts and its full table, and opening a square alone. These are document 03's definitions word for word, but for opening and for
--- Deal's 18, 19 and 20: document 01 opens from the header and the part that begins at the square's grid row, so `opened` here reads nothing
--- else, and document 02, (i), puts the three in the place of 8. Document 03's own text of both stands in Document03.antt, whose `Same-opening`
--- and `Same-refusals` tie the two together. Quotations are document 01's, or 02's where it says so.
--- Assumes nothing: these are definitions.
+-- Keys as bytes (document 01, "Bytes of a key", Deal and Check key): numbers in groups, headers, what Deal writes, what
+-- Check key refuses, a key's parts and its full table, and opening a square alone. These are document 03's definitions
+-- word for word, but for opening and for Deal's 18, 19 and 20: document 01 opens from the header and the part that
+-- begins at the square's grid row, so `opened` here reads nothing else, and document 02, (i), puts the three in the
+-- place of 8. Document 03's own text of both stands in Document03.antt, whose `Same-opening` and `Same-refusals` tie
+-- the two together. Quotations are document 01's, or 02's where it says so. Assumes nothing: these are definitions.
 use mathlib.Core.Path.{_≡_}
 use mathlib.Core.Bool.{Bool, true, false, _&&_, not, cond}
 use mathlib.Core.List.{List, [], _∷_, _++_}
@@ -11,7 +11,8 @@ use Prim.Native.Nat.{ℕ, zero, suc, _+_, _*_, _-_, _/_, _%_, _^_}
 use lib.Dec.{ltb, leb, eqb}
 use lib.ListN.{length, getD, take, drop}
 use Rattle.xor.specs.Xor.{xors, zeros}
-use Rattle.grid.specs.Grid.{Board, board, columns, grid-rows, row-long, board-refusal, arrays-long, seeds-long, words-long, Dealing, all-words, bit, cell}
+use Rattle.grid.specs.Grid.{Board, board, columns, grid-rows, row-long, board-refusal, arrays-long, seeds-long}
+use Rattle.grid.specs.Grid.{words-long, Dealing, all-words, bit, cell}
 use Rattle.grid.specs.Faults.{has-place, arrays-fault}
 use Rattle.grid.specs.declared.fault.Fault.{Fault}
 

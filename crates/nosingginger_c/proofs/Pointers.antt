@@ -50,12 +50,12 @@ module _ (p n m w a : ℕ) (v cs ss ws o z f : List ℕ) where
       let plain = subst (λ (x : DealAnswer). Deal-tells p n m w a v cs ss ws (told x) o z) e tells in
       rw (plain-unplaced p n m w a v cs ss ws o z k plain) (plain, refl)
 
-  pub deal-placed : (g : Fault) (d : DealAnswer) → d ≡ DealAnswer.Fault g → Deal-tells p n m w a v cs ss ws (told d) o z
-      → Deal-places p n m w a v cs ss ws (g .number) o z f (g .«grid_row» ∷ g .column ∷ [])
+  pub deal-placed : (g : Fault) (d : DealAnswer) (k : ℕ) → d ≡ DealAnswer.Fault g → Deal-tells p n m w a v cs ss ws (told d) o z
+      → k ≡ g .number → Deal-places p n m w a v cs ss ws k o z f (g .«grid_row» ∷ g .column ∷ [])
   unfolding Deal-places told
-  deal-placed g d e tells =
+  deal-placed g d k e tells number =
       let placed = subst (λ (x : DealAnswer). Deal-tells p n m w a v cs ss ws (told x) o z) e tells in
-      rw (faulty-placed p n m w a v cs ss ws o z g placed) (placed, refl)
+      rw (number, faulty-placed p n m w a v cs ss ws o z g placed) (placed, refl)
 
 pub check-refused : (ks o : List ℕ) (n : ℕ) → KeyCheck.Refused n ≡ checked-by (key-refusal ks) ks → Check-says ks n o o
 unfolding Check-says checked-as

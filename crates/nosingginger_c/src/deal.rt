@@ -2,7 +2,8 @@
 ghost use Rattle.nosingginger_c.specs.C.{Deal-places};
 use nosingginger::DealAnswer;
 
-// DEAL: the keys of all players one after another; where the arrays are at fault, the grid row and the column of the first fault.
+// DEAL: the keys of all players one after another; where the arrays are at fault, the grid row and the column of the
+// first fault.
 #[no_mangle]
 pub extern "C" fn nsg_deal(
     players: u32,

@@ -1,5 +1,5 @@
--- WHAT IS WRONG WITH ARRAYS, AND WHERE FIRST: document 02, (i), whose sentences are quoted. proofs/BadArrays.antt has the term.
--- Assumes nothing.
+-- WHAT IS WRONG WITH ARRAYS, AND WHERE FIRST: document 02, (i), whose sentences are quoted. proofs/BadArrays.antt has
+-- the term. Assumes nothing.
 use mathlib.Core.Path.{_≡_}
 use mathlib.Core.List.{List, []}
 use Prim.Native.Nat.{ℕ}
@@ -18,7 +18,8 @@ pub record Place-told (b : Board) (point : ℕ) (arrays : List ℕ) (r : Told) :
   -- 18, 19 and 20, each "comes with the grid row and column of the first fault"
   pub two-numbers : has-place (r .number) ≡ true → length (r .place) ≡ 2
   pub first : has-place (r .number) ≡ true →
-      First-fault b point arrays (record { number = r .number; «grid_row» = getD (r .place) 0 0; column = getD (r .place) 1 0 })
+      First-fault b point arrays
+      (record { number = r .number; «grid_row» = getD (r .place) 0 0; column = getD (r .place) 1 0 })
   -- and no other number comes with a place
   pub no-place : has-place (r .number) ≡ false → r .place ≡ []
 
@@ -28,7 +29,8 @@ Deals-place =
     Deal-tells p n m w point value arrays seeds words r out out-now → Place-told (board p n m w) point arrays r
 
 pub record Bad-arrays : Type 0 where
-  -- there is a fault exactly where the arrays are not good, so that hiding, joining and what is accepted are as they were
+  -- there is a fault exactly where the arrays are not good, so that hiding, joining and what is accepted are as they
+  -- were
   pub fault-where-bad : Fault-where-bad
   -- its place is the first: the number fits there, no smaller one does, and none fits at any earlier place
   pub place-is-first : Place-is-first

@@ -1,35 +1,47 @@
--- `deal_call::deal` meets its contract. Assumes nothing.
+-- `deal_call::deal` meets its contract: each answer's place, and its number with what is written. Assumes nothing.
 use native.Mathlib.Omega.{arith}
 use Rattle.grid.specs.Grid.{board}
-use Rattle.deal_call.proofs.Lending.{sizes-in, none-so-far, deal-refused, deal-faulty, deal-room-refused, dealt}
+use Rattle.deal_call.proofs.Lending.{sizes-in, none-so-far, sizes-place, fault-place, no-place}
+use Rattle.deal_call.proofs.Lending.{sizes-refused, fault-refused, room-refused, dealt}
+use Rattle.call_answers.specs.Answers.{told, Deal-tells}
 use Rattle.call_answers.proofs.Sizes.{keys-short, room-for}
 use borrow.Author.Needs.{needs}
 use Rattle.deal_call.proofs.deal.Statement.{statement}
 use Rattle.deal_call.proofs.deal.Tie as tie
 
 returns : tie.Need-returns
-returns c = deal-refused _ _ _ _ _ _ _ _ _ _ _ (c .before .sizes-refusal .ensures) (c .if1 .taken)
+unfolding told Deal-tells
+returns c =
+    let asked = c .before .sizes-refusal .ensures in
+    (sizes-place _ _ _ asked (c .if1 .taken), sizes-refused _ _ _ _ _ _ _ _ _ _ _ asked (c .if1 .taken))
 
 returns-2 : tie.Need-returns-2
+unfolding told Deal-tells
 returns-2 c =
     let e = c .before .before .before in
-    deal-faulty _ _ _ _ _ _ _ _ _ _ _ _ (e .before .sizes-refusal .ensures) (e .if1 .left) (c .before .before .first-fault .ensures) (c .if2 .taken)
+    let asked = e .before .sizes-refusal .ensures in
+    let found = c .before .before .first-fault .ensures in (
+      fault-place _ _ _ asked (e .if1 .left) _ found (c .if2 .taken),
+      fault-refused _ _ _ _ _ _ _ _ _ _ _ _ asked (e .if1 .left) found (c .if2 .taken),
+    )
 
 returns-3 : tie.Need-returns-3
+unfolding told Deal-tells
 returns-3 c =
     let f = c .before .before in
     let e = f .before .before .before in
     let none = none-so-far _ _ _ (e .before .sizes-refusal .ensures) (e .if1 .left) _ (f .before .before .first-fault .ensures) (f .if2 .left) in
-    deal-room-refused _ _ _ _ _ _ _ _ _ _ none _ (c .before .key-length .ensures) (omega (arith, c .if3 .taken))
+    (no-place _ _ none, room-refused _ _ _ _ _ _ _ _ _ _ none _ (c .before .key-length .ensures) (omega (arith, c .if3 .taken)))
 
 returns-4 : tie.Need-returns-4
+unfolding told Deal-tells
 returns-4 c =
     let done = c .before .before in
     let room = done .before .before in
     let f = room .before .before in
     let e = f .before .before .before in
     let none = none-so-far _ _ _ (e .before .sizes-refusal .ensures) (e .if1 .left) _ (f .before .before .first-fault .ensures) (f .if2 .left) in
-    dealt _ _ _ _ _ _ _ _ _ _ none _ (room .before .key-length .ensures) _ (room .if3 .left) (done .deal-keys .ensures)
+    (no-place _ _ none, dealt _ _ _ _ _ _ _ _ _ _ none _ (room .before .key-length .ensures) _ (room .if3 .left) (done .deal-keys .ensures))
 
 sizes-refusal-requires : tie.Need-sizes-refusal-requires
 sizes-refusal-requires c κs = search needs

@@ -1,4 +1,5 @@
 -- `nosingginger_c::deal::nsg_deal` meets its contract. Assumes nothing.
+use native.Mathlib.Omega.{arith}
 use borrow.Author.Needs.{needs}
 use Rattle.nosingginger_c.proofs.Pointers.{deal-plain, deal-placed}
 use Rattle.nosingginger_c.proofs.deal.nsg_deal.Statement.{statement}
@@ -8,7 +9,9 @@ returns : tie.Need-returns
 returns c = deal-plain _ _ _ _ _ _ _ _ _ _ _ _ _ _ (c .before .number .given .1) (c .before .before .before .before .before .deal .ensures)
 
 returns-2 : tie.Need-returns-2
-returns-2 c = deal-placed _ _ _ _ _ _ _ _ _ _ _ _ _ _ (c .before .before .found .given .1) (c .before .before .before .before .before .before .deal .ensures)
+returns-2 c =
+    deal-placed _ _ _ _ _ _ _ _ _ _ _ _ _ _ _ (c .before .before .found .given .1)
+    (c .before .before .before .before .before .before .deal .ensures) (omega arith)
 
 deal-requires : tie.Need-deal-requires
 deal-requires c κs = search needs
