@@ -34,9 +34,9 @@
    archive for x86-64, under valgrind's memcheck and on boards of 2 to 6 players with rows of 4 to 4,096 bytes, none depends on the value, a
    seed, a word or a share, in any call. They do depend
      - in nsg_deal on the arrays, which say whose the seeds are, and on the point: on its grid row, and on its cell by the address at which
-       the value is put. Who can watch branches or addresses while a board deals can learn where the piece is. That holds of a deal refused
-       for a column (18, 19, 20) too, whose number and `fault` can tell the point's grid row by themselves: they are for the board's maker,
-       and not for players;
+       the value is put. Who can watch branches or addresses while a board deals can learn where the piece is. The same holds of a deal
+       refused with 18, 19 or 20. Its number and `fault` can tell the point's grid row by themselves: they are for the board's maker, not
+       for players;
      - in the calls that take a key on its header and its marks, and on the position, grid row or column that is asked for.
    Every call may depend on its numbers and lengths. Instructions whose own time depends on what they work on were not looked at, nor
    other targets.
@@ -88,8 +88,8 @@ extern "C" {
 #define NSG_MOST_KEYS_BYTES 1579056u
 #define NSG_MOST_TABLE_BYTES 1048576u
 
-/* WHAT A CALL RETURNS, and what each number means. A program that shows numbers to people has their names and words from the header beside
-   this one, nosingginger_words.h. */
+/* WHAT A CALL RETURNS, and what each number means. There is no 8: 18, 19 and 20 are in its place. A program that shows numbers to people has
+   their names and words from the header beside this one, nosingginger_words.h. */
 #define NSG_ACCEPTED 0u               /* the call did what it says */
 #define NSG_REFUSED_PLAYERS 1u        /* the number of players is not 2 to 6 */
 #define NSG_REFUSED_POSITIONS 2u      /* the number of positions is not 1 to 65,536 */
@@ -142,8 +142,8 @@ uint32_t nsg_sensor_position(uint32_t sensor, uint32_t *position);
               answer is 18, 19 or 20, and left alone otherwise, by an accepted call too.
    Refusals, in this order: 1, 2, 3, 4, 5; 6 point; 7 value, arrays, seeds or words of another length than said above; 18, 19 or 20 the first
    bad column; 9 keys too short.
-   The first bad column is that of the lowest grid row, and in it the lowest: the byte arrays[fault[0] * NSG_COLUMNS(players) + fault[1]].
-   Its number is the first of these that fits:
+   Grid row 0 is looked through from column 0 on, then grid row 1, and so on. The first bad column is the byte
+   arrays[fault[0] * NSG_COLUMNS(players) + fault[1]]. Its number is the first of these that fits:
      18       it has a bit at `players` or above, which is no player's;
      19       its count of ones is even in the point's grid row, or odd in another one;
      20       the same column stood earlier in its array: of two that are alike the second is the bad one.

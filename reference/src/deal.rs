@@ -115,6 +115,19 @@ pub fn first_fault(board: &Board, piece_row: usize, arrays: &[u8]) -> Option<Ref
     None
 }
 
+/// How many columns have a fault.
+pub fn faulty_columns(board: &Board, piece_row: usize, arrays: &[u8]) -> usize {
+    let mut count = 0;
+    for (grid_row, array) in arrays.chunks(board.columns()).enumerate() {
+        let ones = u32::from(grid_row == piece_row);
+        for (column, &bits) in array.iter().enumerate() {
+            count +=
+                usize::from(column_fault(board.players, ones, &array[..column], bits).is_some());
+        }
+    }
+    count
+}
+
 /// A player's mark bytes for an array: "bit i of a column is player i's mark" and "column j is
 /// bit j mod 8 of byte j div 8, spare bits zero".
 pub fn mark_bytes(player: usize, array: &[u8]) -> Vec<u8> {

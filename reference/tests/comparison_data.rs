@@ -6,7 +6,7 @@ use reference::data::{
     read_file, write_file, Call, CHECK_KEY, CHOOSE_WIDTH, DEAL, DEALING_PROGRAM, EXPAND, HELD_SEED,
     JOINING_PROGRAM, JOIN_KEYS, JOIN_SHARES, KEY_LENGTH, OPEN_ALL, OPEN_ONE, SENSOR_POSITION,
 };
-use reference::deal::{column_fault, first_fault};
+use reference::deal::{faulty_columns, first_fault};
 use std::collections::{BTreeMap, BTreeSet};
 use std::fs;
 
@@ -74,20 +74,6 @@ fn board_of(call: &Call) -> Option<Board> {
     Board::new(players, positions, grid_width, value_width).ok()
 }
 
-/// How many columns of a call of Deal have a fault.
-fn faults_of(call: &Call, board: &Board) -> usize {
-    let piece_row = board.grid_row_of(call.numbers[4] as usize);
-    let arrays = call.inputs[1].chunks(board.columns()).enumerate();
-    arrays
-        .map(|(row, array)| {
-            let ones = u32::from(row == piece_row);
-            let wrong =
-                |at: &usize| column_fault(board.players, ones, &array[..*at], array[*at]).is_some();
-            (0..array.len()).filter(wrong).count()
-        })
-        .sum()
-}
-
 /// Each of 18, 19 and 20 stands alone at the first and the last column of the first and the last
 /// grid row for every p, and is given before other faults, in the odd array and in even ones, with
 /// an output and without.
@@ -109,8 +95,9 @@ fn every_fault_of_arrays_stands_at_every_end() {
         // 20 cannot stand at column 0.
         let least = usize::from(number == 20);
         assert!(column >= least);
-        let alone = faults_of(&case.call, &board) == 1;
-        let odd = grid_row == board.grid_row_of(case.call.numbers[4] as usize);
+        let piece_row = board.grid_row_of(case.call.numbers[4] as usize);
+        let alone = faulty_columns(&board, piece_row, &case.call.inputs[1]) == 1;
+        let odd = grid_row == piece_row;
         let mut meet =
             |what: &str| met.insert(format!("{} players, {number} {what}", board.players));
         for (at_row, row) in ends(grid_row, 0, board.grid_rows() - 1) {
@@ -135,10 +122,10 @@ fn every_fault_of_arrays_stands_at_every_end() {
     assert_eq!(met.len(), 5 * 3 * (4 + 2 + 2 + 2), "{met:#?}");
 }
 
-/// Every other answer of Deal has no place; 7 is given before each of 18, 19 and 20.
+/// Every other answer of Deal has no place; 6 and 7 are given before each of 18, 19 and 20.
 #[test]
 fn no_other_answer_of_deal_has_a_place() {
-    let mut behind_7 = BTreeSet::new();
+    let mut behind = BTreeSet::new();
     for case in all() {
         let number = case.answer.refusal;
         if case.call.operation != DEAL || (18..=20).contains(&number) {
@@ -149,13 +136,14 @@ fn no_other_answer_of_deal_has_a_place() {
             continue;
         };
         let arrays = &case.call.inputs[1];
-        if number == 7 && arrays.len() == board.grid_rows() * board.columns() {
+        if (6..=7).contains(&number) && arrays.len() == board.grid_rows() * board.columns() {
             let piece_row = board.grid_row_of(case.call.numbers[4] as usize);
             let fault = first_fault(&board, piece_row, arrays);
-            behind_7.extend(fault.map(|refused| refused.number));
+            behind.extend(fault.map(|refused| (number, refused.number)));
         }
     }
-    assert_eq!(behind_7, BTreeSet::from([18, 19, 20]));
+    let both = [6, 7].map(|number| [18, 19, 20].map(|behind| (number, behind)));
+    assert_eq!(behind, BTreeSet::from_iter(both.concat()));
 }
 
 #[test]

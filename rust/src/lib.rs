@@ -57,10 +57,9 @@ fn answered(number: u32) -> Result<(), Refusal> {
     judged(number, Refusal::from_number(number, None))
 }
 
-/// The answer of a call that says where a bad column stands, with the numbers that have a place.
+/// The answer of a call that says where a bad column stands.
 fn answered_at(number: u32, [grid_row, column]: [u32; raw::FAULT_NUMBERS]) -> Result<(), Refusal> {
-    let placed = || Refusal::from_number(number, Some((grid_row, column)));
-    judged(number, Refusal::from_number(number, None).or_else(placed))
+    judged(number, Refusal::from_number(number, Some((grid_row, column))))
 }
 
 /// A slice as the library takes it.
@@ -105,7 +104,8 @@ pub fn key_length(board: Board) -> Result<u32, Refusal> {
 ///
 /// ```
 /// # use nosingginger::{deal, Board, Dealing, Refusal};
-/// // Three players and two grid rows. The piece stands in the second, whose array has the column 8, though three players have only the bits 1, 2 and 4.
+/// // Three players and two grid rows, the piece in the second. Its array has the column 8: that is bit 3, and three players have
+/// // the bits 0 to 2.
 /// let board = Board { players: 3, positions: 4, width: 2, value_bytes: 1 };
 /// let arrays = [0, 3, 5, 6, 1, 8, 1, 2];
 /// let (seeds, words) = (vec![0; board.seeds_len()?], vec![0; board.words_len()?]);

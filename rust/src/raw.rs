@@ -2,7 +2,7 @@
 //!
 //! A slice is a pointer and a length in bytes. No pointer may be null, that of an empty slice too. Bytes that a function reads must not
 //! overlap those that it writes. Each answers 0 or the number of a refusal, but for [`nsg_held_seed`];
-//! [`Refusal::from_number`](crate::Refusal::from_number) makes a refusal of the number.
+//! [`Refusal::from_number`](crate::Refusal::from_number) makes a refusal of the number, and of what [`nsg_deal`] left in `fault`.
 
 /// How many numbers [`nsg_check_key`] gives.
 pub const HEADER_NUMBERS: usize = 5;

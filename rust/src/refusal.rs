@@ -3,10 +3,20 @@
 use core::error::Error;
 use core::fmt;
 
-/// A refusal's place, made of its fields or taken apart into them; none where it has none.
-macro_rules! place {
+/// The place of a refusal, made of its fields; none where it has none.
+macro_rules! place_of {
     () => {
         None
+    };
+    ($grid_row:ident $column:ident) => {
+        Some(($grid_row, $column))
+    };
+}
+
+/// The place that a refusal is made with; anything will do where it has none.
+macro_rules! place_for {
+    () => {
+        _
     };
     ($grid_row:ident $column:ident) => {
         Some(($grid_row, $column))
@@ -61,15 +71,15 @@ macro_rules! refusals {
             /// grid row × [`columns`](crate::Board::columns) + column of [`Dealing::arrays`](crate::Dealing::arrays).
             pub const fn bad_column(self) -> Option<(u32, u32)> {
                 match self {
-                    $(Refusal::$variant $({ $grid_row, $column })? => place!($($grid_row $column)?),)*
+                    $(Refusal::$variant $({ $grid_row, $column })? => place_of!($($grid_row $column)?),)*
                 }
             }
 
-            /// The refusal of a number and a place, if there is one. A refusal that has a place is not made without it, nor another with
-            /// one.
+            /// The refusal of a number, if it is a refusal's. Those of a bad column are made with its grid row and column, and not
+            /// without them; the others have no place, whatever is given.
             pub const fn from_number(number: u32, place: Option<(u32, u32)>) -> Option<Refusal> {
                 match (number, place) {
-                    $(($number, place!($($grid_row $column)?)) => Some(Refusal::$variant $({ $grid_row, $column })?),)*
+                    $(($number, place_for!($($grid_row $column)?)) => Some(Refusal::$variant $({ $grid_row, $column })?),)*
                     _ => None,
                 }
             }
@@ -100,7 +110,8 @@ refusals! {
 }
 
 impl fmt::Display for Refusal {
-    /// The refusal in words, and its place behind them if it has one: "… (grid row 3, column 5)". A width is the words' own.
+    /// The refusal in words, and its place behind them if it has one: "… (grid row 3, column 5)". A width or a precision that is
+    /// asked for is that of the words; the place follows whole.
     fn fmt(&self, formatter: &mut fmt::Formatter<'_>) -> fmt::Result {
         formatter.pad(self.words())?;
         match self.bad_column() {

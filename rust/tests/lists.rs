@@ -12,7 +12,7 @@ const PLACE: (u32, u32) = (3, 5);
 
 /// The refusal of a number, with a place if it has one.
 fn of_number(number: u32) -> Option<Refusal> {
-    Refusal::from_number(number, None).or(Refusal::from_number(number, Some(PLACE)))
+    Refusal::from_number(number, Some(PLACE))
 }
 
 /// A variant's own name as the list writes names: ValueBytes is VALUE_BYTES.
@@ -50,13 +50,13 @@ fn numbers_run_from_1_to_20_without_8_and_lead_back() {
     }
 }
 
-/// 18, 19 and 20 have a place and are not made without one; the others have none and are not made with one.
+/// 18, 19 and 20 have a place and are not made without one; the others have none, and are the same with one given or without.
 #[test]
 fn three_refusals_have_a_place() {
     for (number, ..) in Refusal::LIST {
-        let (placed, unplaced) = (Refusal::from_number(number, Some(PLACE)), Refusal::from_number(number, None));
-        assert_eq!((placed.is_some(), unplaced.is_some()), if (18..=20).contains(&number) { (true, false) } else { (false, true) }, "{number}");
-        assert_eq!(of_number(number).unwrap().bad_column(), (18..=20).contains(&number).then_some(PLACE));
+        let (refusal, has_place) = (of_number(number).unwrap(), (18..=20).contains(&number));
+        assert_eq!(refusal.bad_column(), has_place.then_some(PLACE), "{number}");
+        assert_eq!(Refusal::from_number(number, None), (!has_place).then_some(refusal), "{number}");
     }
     let (grid_row, column) = PLACE;
     assert_eq!(of_number(18), Some(Refusal::ColumnBit { grid_row, column }));

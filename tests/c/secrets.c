@@ -217,19 +217,30 @@ static void test_key_depends(struct board board, const struct lent *known, struc
     give_back(&bits);
 }
 
+/* The arrays of a dealing are marked, and then its point; with neither the answer is the one wanted. */
+static void test_deal_depends(struct draw *draw, struct lent *keys, struct lent *fault, uint32_t wanted)
+{
+    hide(draw->arrays.bytes, draw->arrays.length);
+    CHECK(reported(deal(draw, keys, fault)));
+    show(draw->arrays.bytes, draw->arrays.length);
+    hide(&draw->point, sizeof draw->point);
+    CHECK(reported(deal(draw, keys, fault)));
+    show(&draw->point, sizeof draw->point);
+    show(fault->bytes, fault->length);
+    CHECK(quietly(deal(draw, keys, fault), wanted));
+}
+
 static void test_depends(struct board board, uint32_t point)
 {
     struct draw draw = draw_dealing(board, point);
     struct lent known = dealt_keys(&draw), keys = lend(known.bytes, known.length), share = lend_filled(FILL, board.value_bytes), fault = lend_fault();
     const uint32_t length = key_length(board);
     uint32_t number = 0;
-    hide(draw.arrays.bytes, draw.arrays.length);
-    CHECK(reported(deal(&draw, &keys, &fault)));
-    show(draw.arrays.bytes, draw.arrays.length);
-    hide(&draw.point, sizeof draw.point);
-    CHECK(reported(deal(&draw, &keys, &fault)));
-    show(&draw.point, sizeof draw.point);
-    CHECK(quietly(deal(&draw, &keys, &fault), NSG_ACCEPTED));
+    uint8_t *const last = draw.arrays.bytes + draw.arrays.length - 1, right = *last;
+    *last = last[-1];   /* refused for this column, and then accepted */
+    test_deal_depends(&draw, &keys, &fault, NSG_REFUSED_COLUMN_TWICE);
+    *last = right;
+    test_deal_depends(&draw, &keys, &fault, NSG_ACCEPTED);
     test_key_depends(board, &known, key_bits(board, UNDEFINED, DEFINED, DEFINED));
     test_key_depends(board, &known, key_bits(board, DEFINED, UNDEFINED, DEFINED));
     hide(&number, sizeof number);   /* still 0: a position, a grid row, a column */

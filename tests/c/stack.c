@@ -1,5 +1,5 @@
 /* How much stack each call uses: it runs once on a painted stack of its own, and the paint that is gone is counted. A call of nothing is
-   measured first and taken off. Fails where a call is refused or needs more than NSG_STACK_BYTES. */
+   measured first and taken off. Fails where a call is refused, but for the one that has to be, or needs more than NSG_STACK_BYTES. */
 #define _XOPEN_SOURCE 600
 #include "common.h"
 #include <stdio.h>
@@ -11,14 +11,16 @@ enum { STACK = 256 * 1024, PAINT = 0xB7 };
 static uint8_t stack[STACK];
 static ucontext_t outside, inside;
 
-/* What the calls work on: the largest rows and the most columns that there are, and a joined table that is not too long. */
-static struct draw draw;
+/* What the calls work on: the largest rows and the most columns that there are, and a joined table that is not too long. The spoiled draw has
+   its last column twice. */
+static struct draw draw, spoiled;
 static struct lent keys, table, fault;
 static uint32_t length, number, header[NSG_HEADER_NUMBERS], answer;
 
 static void call_nothing(void) { answer = NSG_ACCEPTED; }
 static void call_key_length(void) { answer = nsg_key_length(6, 1024, 256, 16, &number); }
 static void call_deal(void) { answer = deal(&draw, &keys, &fault); }
+static void call_bad_deal(void) { answer = deal(&spoiled, &keys, &fault) != NSG_REFUSED_COLUMN_TWICE; }
 static void call_check_key(void) { answer = nsg_check_key(keys.bytes, length, header); }
 static void call_open_one(void) { answer = nsg_open_one(keys.bytes, length, 1023, table.bytes, table.length); }
 static void call_open_all(void) { answer = nsg_open_all(keys.bytes, length, table.bytes, table.length); }
@@ -32,10 +34,10 @@ static void call_sensor_position(void) { answer = nsg_sensor_position(71, &numbe
 static const struct {
     const char *name;
     void (*call)(void);
-} calls[] = {{"nsg_key_length", call_key_length}, {"nsg_deal", call_deal}, {"nsg_check_key", call_check_key}, {"nsg_open_one", call_open_one},
-             {"nsg_open_all", call_open_all}, {"nsg_join_shares", call_join_shares}, {"nsg_join_keys", call_join_keys},
-             {"nsg_held_seed", call_held_seed}, {"nsg_expand", call_expand}, {"nsg_choose_width", call_choose_width},
-             {"nsg_sensor_position", call_sensor_position}};
+} calls[] = {{"nsg_key_length", call_key_length}, {"nsg_deal", call_deal}, {"nsg_deal, refused for a column", call_bad_deal},
+             {"nsg_check_key", call_check_key}, {"nsg_open_one", call_open_one}, {"nsg_open_all", call_open_all},
+             {"nsg_join_shares", call_join_shares}, {"nsg_join_keys", call_join_keys}, {"nsg_held_seed", call_held_seed},
+             {"nsg_expand", call_expand}, {"nsg_choose_width", call_choose_width}, {"nsg_sensor_position", call_sensor_position}};
 
 /* The bytes of the painted stack that a call changed, from the deepest of them up. The stack grows down. */
 static unsigned used_by(void (*call)(void))
@@ -58,6 +60,8 @@ int main(void)
 {
     unsigned nothing = used_by(call_nothing), most = 0;
     draw = draw_dealing((struct board){6, 1024, 256, 16}, 1000);
+    spoiled = draw_dealing(draw.board, 1000);
+    spoiled.arrays.bytes[spoiled.arrays.length - 1] = spoiled.arrays.bytes[spoiled.arrays.length - 2];
     length = key_length(draw.board);
     keys = dealt_keys(&draw);
     table = lend_filled(0, 1024 * 16);
@@ -67,12 +71,13 @@ int main(void)
         CHECK(answer == NSG_ACCEPTED);
         CHECK(used <= NSG_STACK_BYTES);
         most = used > most ? used : most;
-        printf("stack: %-20s %6u bytes\n", calls[i].name, used);
+        printf("stack: %-30s %6u bytes\n", calls[i].name, used);
     }
     printf("stack: at most %u bytes, %u allowed; %lu checks, %lu failed\n", most, NSG_STACK_BYTES, checks_made, checks_failed);
     give_back(&fault);
     give_back(&table);
     give_back(&keys);
+    give_back_draw(&spoiled);
     give_back_draw(&draw);
     return checks_failed != 0;
 }

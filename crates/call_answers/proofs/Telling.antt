@@ -2,19 +2,20 @@
 use mathlib.Core.Path.{_≡_, refl, sym, ap, _∙_, subst⁻¹}
 use mathlib.Core.Bool.{Bool, true, false, cond}
 use mathlib.Core.List.{List, [], _∷_}
+use mathlib.Core.Logic.{_⊎_, ⊎-elim}
 use Prim.Native.Nat.{ℕ, _*_, _≤_, _<_}
 use native.Mathlib.Omega.{arith}
 use borrow.Author.Tests.{eqb-true, eqb-false}
 use lib.Dec.{ltb, eqb}
 use lib.ListN.{length, getD}
-use Rattle.grid.specs.Grid.{Board, board}
+use Rattle.grid.specs.Grid.{Board, board, grid-rows, arrays-good}
 use Rattle.grid.specs.Faults.{has-place, First-fault, Place-is-first}
 use Rattle.grid.proofs.Faults.{place-is-first}
 use Rattle.grid.specs.declared.fault.Fault.{Fault}
 use Rattle.keys.specs.Keys.{Lent, lent, sizes-refusal, lent-fault, deal-refusal, deal-place, key-long, or-else}
 use Rattle.keys.proofs.Accepted.{first-fits, next-fits}
-use Rattle.keys.proofs.Lending.{sizes-most, fault-placed, small-unplaced, placed-large}
-use Rattle.call_answers.specs.Answers.{Told, told, Told-once, Deal-says, Deal-tells}
+use Rattle.keys.proofs.Lending.{sizes-most, fault-placed, small-unplaced, placed-large, accepted-lent}
+use Rattle.call_answers.specs.Answers.{Told, told, Told-apart, Deal-says, Deal-tells}
 use Rattle.call_answers.specs.declared.DealAnswer.{DealAnswer}
 use Rattle.call_answers.proofs.Putting.{answer-is}
 
@@ -32,19 +33,20 @@ same-fault f g e =
     let place = ap (λ (t : Told). t .place) e in
     same-made _ _ _ _ _ _ (ap (λ (t : Told). t .number) e) (ap (λ (xs : List ℕ). getD xs 0 0) place) (ap (λ (xs : List ℕ). getD xs 1 0) place)
 
-pub told-once : Told-once
-unfolding Told-once told
-told-once (DealAnswer.Number n) (DealAnswer.Number m) e = ap DealAnswer.Number (ap (λ (t : Told). t .number) e)
-told-once (DealAnswer.Number n) (DealAnswer.Fault g) e =
+pub told-apart : Told-apart
+unfolding Told-apart told
+told-apart (DealAnswer.Number n) (DealAnswer.Number m) e = ap DealAnswer.Number (ap (λ (t : Told). t .number) e)
+told-apart (DealAnswer.Number n) (DealAnswer.Fault g) e =
     let none : _≡_ {A = ℕ} 0 2 = ap (λ (t : Told). length (t .place)) e in absurd (omega arith)
-told-once (DealAnswer.Fault f) (DealAnswer.Number m) e =
+told-apart (DealAnswer.Fault f) (DealAnswer.Number m) e =
     let none : _≡_ {A = ℕ} 2 0 = ap (λ (t : Told). length (t .place)) e in absurd (omega arith)
-told-once (DealAnswer.Fault f) (DealAnswer.Fault g) e = ap DealAnswer.Fault (same-fault f g e)
+told-apart (DealAnswer.Fault f) (DealAnswer.Fault g) e = ap DealAnswer.Fault (same-fault f g e)
 
 -- A PLACE EXACTLY WITH 18 TO 20
 
 -- of three numbers, the first that is not 0, or the last
-picked : (C : Type 0) (s f e n : ℕ) → n ≡ or-else (or-else s f) e → (n ≡ s → (s ≡ 0 → ⊥) → C) → (n ≡ f → (f ≡ 0 → ⊥) → C) → (n ≡ e → C) → C
+picked : (C : Type 0) (s f e n : ℕ) → n ≡ or-else (or-else s f) e
+    → (n ≡ s → (s ≡ 0 → ⊥) → C) → (n ≡ f → (f ≡ 0 → ⊥) → C) → (or-else s f ≡ 0 → n ≡ e → C) → C
 picked C s f e n is by-s by-f by-e = go (eqb s 0) refl (eqb f 0) refl
   where
     go : (t : Bool) → eqb s 0 ≡ t → (u : Bool) → eqb f 0 ≡ u → C
@@ -56,7 +58,8 @@ picked C s f e n is by-s by-f by-e = go (eqb s 0) refl (eqb f 0) refl
         let some = eqb-false f 0 k in
         let next = next-fits s f (eqb-true s 0 h) in
         by-f (is ∙ first-fits (or-else s f) e (λ z. some (sym next ∙ z)) ∙ next) some
-    go true h true k = by-e (is ∙ next-fits (or-else s f) e (next-fits s f (eqb-true s 0 h) ∙ eqb-true f 0 k))
+    go true h true k =
+        let none = next-fits s f (eqb-true s 0 h) ∙ eqb-true f 0 k in by-e none (is ∙ next-fits (or-else s f) e none)
 
 -- what comes behind Deal's other numbers has no place
 place-kept : (d rest : ℕ) → rest < 18 → has-place (or-else d rest) ≡ has-place d
@@ -83,26 +86,34 @@ module _ (p n m w a : ℕ) (v cs ss ws : List ℕ) (r : Told) (o z : List ℕ) (
   f = lent-fault on l
 
   -- the number is one of 1 to 7, the fault's, or 9 or 0
-  number-by : (C : Type 0) → (r .number ≤ 7 → C) → (r .number ≡ f .number → (f .number ≡ 0 → ⊥) → C) → ((r .number < 18) × (r .number ≡ 8 → ⊥) → C) → C
+  number-by : (C : Type 0) → (r .number ≤ 7 → (r .number ≡ 0 → ⊥) → C) → (r .number ≡ f .number → 18 ≤ r .number → C)
+      → (deal-refusal on l ≡ 0 → (r .number < 18) × (r .number ≡ 8 → ⊥) → C) → C
   unfolding Deal-tells Deal-says deal-refusal
   number-by C by-sizes by-fault by-room =
       let short = ltb (length o) (p * key-long on) in
       picked C (sizes-refusal on l) (f .number) (cond short 9 0) (r .number) (answer-is _ _ (r .number) o z (tells .1))
-      (λ is some. by-sizes (omega (arith, sizes-most on l))) by-fault (λ is. by-room (nine-or-none short (r .number) is))
+      (λ is some. by-sizes (omega (arith, sizes-most on l)) (λ none. some (sym is ∙ none)))
+      (λ is some. by-fault is (omega (arith, placed-large (f .number) (fault-placed on l some))))
+      (λ none is. by-room none (nine-or-none short (r .number) is))
 
   pub never-8 : r .number ≡ 8 → ⊥
-  never-8 e =
-      number-by ⊥ (λ few. omega arith) (λ is some. omega (arith, placed-large (f .number) (fault-placed on l some))) (λ room. room .1 e)
+  never-8 e = number-by ⊥ (λ few some. omega arith) (λ is large. omega arith) (λ none room. room .1 e)
+
+  -- 0 and 9 are answered where the arrays are good
+  pub none-missed : (r .number ≡ 0) ⊎ (r .number ≡ 9) → arrays-good (grid-rows on) 0 on a cs ≡ true
+  none-missed h =
+      number-by (arrays-good (grid-rows on) 0 on a cs ≡ true) (λ few some. absurd (⊎-elim (λ e. some e) (λ e. omega arith) h))
+      (λ is large. absurd (⊎-elim (λ e. omega arith) (λ e. omega arith) h)) (λ none room. accepted-lent on l none .parities)
 
   -- a place is told exactly where the number has one
-  pub place-is : r .place ≡ cond (has-place (r .number)) (f .«grid_row» ∷ f .column ∷ []) []
+  place-is : r .place ≡ cond (has-place (r .number)) (f .«grid_row» ∷ f .column ∷ []) []
   unfolding Deal-tells Deal-says deal-place
   place-is =
       let short = ltb (length o) (p * key-long on) in
       let number : r .number ≡ or-else (deal-refusal on l) (cond short 9 0) = answer-is _ _ (r .number) o z (tells .1) in
       rw (number, place-kept (deal-refusal on l) (cond short 9 0) (nine-or-none short (cond short 9 0) refl .0)) (tells .0)
 
-  pub place-long : length (r .place) ≡ cond (has-place (r .number)) 2 0
+  place-long : length (r .place) ≡ cond (has-place (r .number)) 2 0
   place-long = ap (λ (xs : List ℕ). length xs) place-is ∙ go (has-place (r .number))
     where
       go : (t : Bool) → length {A = ℕ} (cond t (f .«grid_row» ∷ f .column ∷ []) []) ≡ cond t 2 0
@@ -123,7 +134,9 @@ module _ (p n m w a : ℕ) (v cs ss ws : List ℕ) (r : Told) (o z : List ℕ) (
     least = placed-large (r .number) h
 
     number-is : r .number ≡ f .number
-    number-is = number-by (r .number ≡ f .number) (λ few. absurd (omega (arith, least))) (λ is some. is) (λ room. absurd (omega (arith, least)))
+    number-is =
+        number-by (r .number ≡ f .number) (λ few some. absurd (omega (arith, least))) (λ is large. is)
+        (λ none room. absurd (omega (arith, least)))
 
     pub first-told : First-fault on a cs (record { number = r .number; «grid_row» = getD (r .place) 0 0; column = getD (r .place) 1 0 })
     unfolding made Place-is-first

@@ -18,7 +18,6 @@ use Rattle.keys.specs.Keys.{or-else, lent, deal-refusal, deal-place, keys-from,
 use Rattle.keys.specs.Keys.{head-in, opened, table}
 use Rattle.call_answers.specs.declared.Answer.{Answer}
 use Rattle.call_answers.specs.declared.DealAnswer.{DealAnswer}
-use Rattle.grid.specs.declared.fault.Fault.{Fault}
 
 -- "either the full result or the first refusal number that fits, the lent output then unchanged"
 unfoldable pub Put-says : (refusal : ℕ) → (bytes : List ℕ) → (r : ℕ) → (out out-now : List ℕ) → Type 0
@@ -47,8 +46,8 @@ told (DealAnswer.Number n) = record { number = n; place = [] }
 told (DealAnswer.Fault f) = record { number = f .number; place = f .«grid_row» ∷ f .column ∷ [] }
 
 -- no two answers tell the same, so that what is told fixes the answer
-unfoldable pub Told-once : Type 0
-Told-once = (x y : DealAnswer) → told x ≡ told y → x ≡ y
+unfoldable pub Told-apart : Type 0
+Told-apart = (x y : DealAnswer) → told x ≡ told y → x ≡ y
 
 -- DEAL, with its place: "each comes with the grid row and column of the first fault", and no other number does
 unfoldable pub Deal-tells : (p n m w point : ℕ) → (value arrays seeds words : List ℕ) → Told → (out out-now : List ℕ)

@@ -34,8 +34,8 @@ pub fn accepted(value: u32) -> Answer
     }
 }
 
-// What Deal answers: 0, or the number of a refusal that has no place; or what is wrong with the arrays first, and
-// where: 18, 19 or 20 with its grid row and column.
+// What Deal answers: 0, or the number of a refusal that has no place; or the first fault of the arrays, 18, 19 or 20
+// with its grid row and column.
 pub enum DealAnswer {
     Number(u32),
     Fault(Fault),

@@ -1,6 +1,5 @@
-// The refusal numbers of documents 01 and 02 by name, in one place. The numbers of a board and of its arrays stand with
-// boards, those of a key with keys.
-// Assumes nothing.
+// The refusal numbers by name, in one place. The numbers of a board and of its arrays stand with boards, those of a key
+// with keys. Assumes nothing.
 pub use grid::board::ACCEPTED;
 pub use grid::board::REFUSED_GRID_ROWS;
 pub use grid::board::REFUSED_PLAYERS;

@@ -25,7 +25,7 @@ use Rattle.deal_last_word.specs.LastWord.{dealt-word}
 use Rattle.seed_rows.specs.Rows.{rule}
 use Rattle.deal_last_word.proofs.LastWord.{dealt-word-long}
 use Rattle.deal_keys.specs.Dealt.{key-front, dealt-keys}
-use Rattle.keys.proofs.Lending.{Lent-fits}
+use Rattle.keys.proofs.Lending.{Accepted-lent}
 
 -- LENGTHS
 
@@ -135,7 +135,7 @@ pub record Begun (b : Board) (l : Lent) (last start : ℕ) (old fronted begun : 
   pub front : Wrote 0 (key-front b 0 (l .arrays) (l .seeds) (l .words)) last old fronted
   pub word : Wrote last (dealt-word b (rule b) (l .point) (l .value) (l .seeds) (l .words)) start fronted begun
 
-module _ (b : Board) (l : Lent) (facts : Lent-fits b l) where
+module _ (b : Board) (l : Lent) (facts : Accepted-lent b l) where
   abbrev front : ℕ → List ℕ
   front i = key-front b i (l .arrays) (l .seeds) (l .words)
 

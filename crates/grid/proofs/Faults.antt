@@ -1,28 +1,27 @@
 -- The first fault of a dealing's arrays: there is none exactly where the arrays are good, and the place found is the first.
 -- Assumes nothing.
 use mathlib.Core.Path.{_≡_, refl, sym, ap, _∙_, subst, subst⁻¹}
-use mathlib.Core.Bool.{Bool, true, false, not, cond, false≢true}
+use mathlib.Core.Bool.{Bool, true, false, cond, false≢true}
 use mathlib.Core.List.{List}
+use mathlib.Core.Logic.{_⊎_, inl, inr, ⊎-elim}
 use Prim.Native.Nat.{ℕ, zero, suc, _+_, _*_, _/_, _%_, _^_, _≤_, _<_}
 use native.Mathlib.Decide.{decLe}
 use native.Mathlib.Omega.{arith}
 use native.Mathlib.Nat.{mod-lt, div-add-mod', div-lt-iff-lt-mul}
 use lib.Arith.{digits-lt, digits-div, digits-mod}
-use lib.Dec.{leb, eqb}
-use lib.ListN.{length, getD, take, drop, length-drop}
+use lib.Dec.{eqb}
+use lib.ListN.{length, getD, drop, length-drop}
 use lib.Seq.{length-take-le, getD-take, getD-drop}
 use borrow.Author.Tests.{leb-false, lt-leb, eqb-true, eqb-false, eq-eqb, ne-eqb, not-false}
 use Rattle.grid.specs.Grid.{Board, columns, grid-rows, arrays-long, column, is-odd, same-parity, member, arrays-good}
-use Rattle.grid.specs.Faults.{bit-beyond, wrong-parity, before, fits, column-fault, fits-at, fault-at, no-fault, fault-from, arrays-fault}
+use Rattle.grid.specs.Faults.{bit-beyond, wrong-parity, first-of, fits, column-fault, columns-before, fits-at, fault-at}
+use Rattle.grid.specs.Faults.{no-fault, fault-from, arrays-fault}
 use Rattle.grid.specs.Faults.{Fault-where-bad, First-fault, Place-is-first}
 use Rattle.grid.specs.declared.fault.Fault.{Fault}
 use Rattle.grid.proofs.Columns.{parity-is, parity-fits}
 use Rattle.grid.proofs.Facts.{columns-pos, absent, not-member, Arrays-in, arrays-in, arrays-accepted}
 
 -- AT ONE COLUMN: three tests, the first that holds, and whether a number fits
-
-abbrev first-of : (x y z : Bool) → ℕ
-first-of x y z = cond x 18 (cond y 19 (cond z 20 0))
 
 abbrev fit : (x y z : Bool) → (n : ℕ) → Bool
 fit x y z n = cond (eqb n 18) x (cond (eqb n 19) y (cond (eqb n 20) z false))
@@ -72,7 +71,7 @@ first-fits false false false h = absurd (h refl)
 
 -- a column is without fault where it has bits of p players, the parity asked, and did not stand before
 module _ (b : Board) (o : Bool) (seen : List ℕ) (c : ℕ) where
-  pub column-fine : c < 2 ^ b .p → is-odd c ≡ o → member c seen ≡ false → column-fault b o seen c ≡ 0
+  column-fine : c < 2 ^ b .p → is-odd c ≡ o → member c seen ≡ false → column-fault b o seen c ≡ 0
   unfolding column-fault
   column-fine low parity new = rw (lt-leb (2 ^ b .p) c low, parity-fits (is-odd c) o parity, new)
 
@@ -92,11 +91,11 @@ module _ (b : Board) (a : ℕ) (cs : List ℕ) where
       unfit _ _ _ n (λ e. none .0) (λ e. none .1) (λ e. none .2)
 
   -- the columns before one, by their places
-  before-long : (g j : ℕ) → length cs ≡ arrays-long b → g < grid-rows b → j < columns b → length (before b cs g j) ≡ j
+  before-long : (g j : ℕ) → length cs ≡ arrays-long b → g < grid-rows b → j < columns b → length (columns-before b cs g j) ≡ j
   before-long g j long l m =
       length-take-le j (drop (g * columns b) cs) (rw length-drop (omega (arith, digits-lt l m)))
 
-  before-at : (g j k : ℕ) → k < j → getD (before b cs g j) k 0 ≡ column b cs g k
+  before-at : (g j k : ℕ) → k < j → getD (columns-before b cs g j) k 0 ≡ column b cs g k
   unfolding column
   before-at g j k h = rw (getD-take, getD-drop)
 
@@ -106,7 +105,7 @@ module _ (b : Board) (a : ℕ) (cs : List ℕ) where
     unfolding fault-at
     fine-at t g j l m =
         column-fine b _ _ _ (t .below g j l m) (t .parity g j l m)
-        (not-member (column b cs g j) (before b cs g j)
+        (not-member (column b cs g j) (columns-before b cs g j)
         (λ k h e.
         let inside : k < j = subst (λ (n : ℕ). k < n) (before-long g j long l m) h in
         let same : k ≡ j = t .once g k j l (omega arith) m (sym (before-at g j k inside) ∙ e) in
@@ -125,7 +124,7 @@ module _ (b : Board) (a : ℕ) (cs : List ℕ) where
       where
         apart : (g j k : ℕ) → g < grid-rows b → k < columns b → j < k → column b cs g j ≡ column b cs g k → ⊥
         apart g j k l n less e =
-            absent (column b cs g k) (before b cs g k) (column-in b _ _ _ (h g k l n) .2) j
+            absent (column b cs g k) (columns-before b cs g k) (column-in b _ _ _ (h g k l n) .2) j
             (subst⁻¹ (λ (m : ℕ). j < m) (before-long g k long l n) less) (before-at g k j less ∙ e)
 
         once-of : (g j k : ℕ) → g < grid-rows b → j < columns b → k < columns b → column b cs g j ≡ column b cs g k → j ≡ k
@@ -157,11 +156,6 @@ module _ (b : Board) (a : ℕ) (cs : List ℕ) where
   unfolding fault-from
   no-more k i e = rw e
 
-  -- where no place has a fault none is found
-  none-found : (k i : ℕ) → ((m : ℕ) → i ≤ m → m < i + k → at m ≡ 0) → fault-from k i b a cs ≡ no-fault
-  none-found zero i h = no-more zero i refl
-  none-found (suc k) i h = fault-next k i (h i (omega arith) (omega arith)) ∙ none-found k (suc i) (λ m l n. h m (omega arith) (omega arith))
-
   -- what is found is at a place, and no earlier place has a fault
   record Found (k i : ℕ) (f : Fault) : Type 0 where
     place : ℕ
@@ -171,55 +165,64 @@ module _ (b : Board) (a : ℕ) (cs : List ℕ) where
     some : at place ≡ 0 → ⊥
     none : (m : ℕ) → i ≤ m → m < place → at m ≡ 0
 
+  -- or nothing is found, and no place has one
+  record Nothing (k i : ℕ) (f : Fault) : Type 0 where
+    is : f ≡ no-fault
+    none : (m : ℕ) → i ≤ m → m < i + k → at m ≡ 0
+
   this-or-later : (i end : ℕ) → at i ≡ 0 → ((m : ℕ) → suc i ≤ m → m < end → at m ≡ 0) → (m : ℕ) → i ≤ m → m < end → Dec (suc i ≤ m) → at m ≡ 0
   this-or-later i end here later m l n (yes less) = later m less n
   this-or-later i end here later m l n (no same) =
       let is : i ≡ m = omega arith in subst (λ (k : ℕ). at k ≡ 0) is here
 
-  found : (k i : ℕ) → (fault-from k i b a cs .number ≡ 0 → ⊥) → Found k i (fault-from k i b a cs)
-  found zero i h = absurd (h (ap (λ (f : Fault). f .number) (no-more zero i refl)))
-  found (suc k) i h = go (eqb (at i) 0) refl (found k (suc i))
+  scanned : (k i : ℕ) → Found k i (fault-from k i b a cs) ⊎ Nothing k i (fault-from k i b a cs)
+  scanned zero i = inr (record { is = no-more zero i refl; none = λ m l n. absurd (omega (arith, l, n)) })
+  scanned (suc k) i = go (eqb (at i) 0) refl (scanned k (suc i))
     where
-      go : (t : Bool) → eqb (at i) 0 ≡ t
-          → ((fault-from k (suc i) b a cs .number ≡ 0 → ⊥) → Found k (suc i) (fault-from k (suc i) b a cs))
-          → Found (suc k) i (fault-from (suc k) i b a cs)
-      go true e later =
+      go : (t : Bool) → eqb (at i) 0 ≡ t → Found k (suc i) (fault-from k (suc i) b a cs) ⊎ Nothing k (suc i) (fault-from k (suc i) b a cs)
+          → Found (suc k) i (fault-from (suc k) i b a cs) ⊎ Nothing (suc k) i (fault-from (suc k) i b a cs)
+      go true e (inl f) =
           let here : at i ≡ 0 = eqb-true (at i) 0 e in
-          let same = fault-next k i here in
-          let f = later (λ z. h (ap (λ (f : Fault). f .number) same ∙ z)) in
-          record {
+          inl
+          (record {
             place = f .place;
             from = omega (arith, f .from);
             upto = omega (arith, f .upto);
-            is = same ∙ f .is;
+            is = fault-next k i here ∙ f .is;
             some = f .some;
             none = λ m l n. this-or-later i (f .place) here (f .none) m l n (decLe (suc i) m);
-          }
+          })
+      go true e (inr f) =
+          let here : at i ≡ 0 = eqb-true (at i) 0 e in
+          inr
+          (record {
+            is = fault-next k i here ∙ f .is;
+            none = λ m l n. this-or-later i (i + suc k) here (λ m l n. f .none m l (omega arith)) m l n (decLe (suc i) m);
+          })
       go false e later =
           let here : (at i ≡ 0 → ⊥) = eqb-false (at i) 0 e in
-          record {
+          inl
+          (record {
             place = i;
             from = omega arith;
             upto = omega arith;
             is = fault-here k i here;
             some = here;
             none = λ m l n. absurd (omega (arith, l, n));
-          }
+          })
 
-  -- and where nothing is found no place has a fault
+  -- so where no place has a fault none is found
+  none-found : (k i : ℕ) → ((m : ℕ) → i ≤ m → m < i + k → at m ≡ 0) → fault-from k i b a cs ≡ no-fault
+  none-found k i h = ⊎-elim (λ f. absurd (f .some (h (f .place) (f .from) (f .upto)))) (λ f. f .is) (scanned k i)
+
+  -- a number that is not 0 is one that was found
+  found : (k i : ℕ) → (fault-from k i b a cs .number ≡ 0 → ⊥) → Found k i (fault-from k i b a cs)
+  found k i h = ⊎-elim (λ f. f) (λ f. absurd (h (ap (λ (g : Fault). g .number) (f .is)))) (scanned k i)
+
+  -- and where the number is 0 no place has a fault
   none-there : (k i : ℕ) → fault-from k i b a cs .number ≡ 0 → (m : ℕ) → i ≤ m → m < i + k → at m ≡ 0
-  none-there zero i h m l n = let none : ⊥ = omega arith in absurd none
-  none-there (suc k) i h m l n = go (eqb (at i) 0) refl (none-there k (suc i))
-    where
-      go : (t : Bool) → eqb (at i) 0 ≡ t
-          → (fault-from k (suc i) b a cs .number ≡ 0 → (m : ℕ) → suc i ≤ m → m < suc i + k → at m ≡ 0) → at m ≡ 0
-      go true e later =
-          let here : at i ≡ 0 = eqb-true (at i) 0 e in
-          let rest = later (sym (ap (λ (f : Fault). f .number) (fault-next k i here)) ∙ h) in
-          this-or-later i (i + suc k) here (λ m l n. rest m l (omega arith)) m l n (decLe (suc i) m)
-      go false e later =
-          let here : (at i ≡ 0 → ⊥) = eqb-false (at i) 0 e in
-          absurd (here (sym (ap (λ (f : Fault). f .number) (fault-here k i here)) ∙ h))
+  none-there k i h =
+      ⊎-elim (λ f. absurd (f .some (sym (ap (λ (g : Fault). g .number) (f .is)) ∙ h))) (λ f. f .none) (scanned k i)
 
   -- a place by its grid row and column
   at-place : (g j : ℕ) → j < columns b → at (g * columns b + j) ≡ fault-at b a cs g j

@@ -31,10 +31,12 @@ fits b o before c n =
     cond (eqb n 18) (bit-beyond b c)
     (cond (eqb n 19) (wrong-parity o c) (cond (eqb n 20) (stood-earlier before c) false))
 
--- "At one column the order is as follows": the first number that fits, or 0
+-- "At one column the order is as follows": the number of the first of three tests that holds, or 0
+abbrev pub first-of : (beyond wrong stood : Bool) → ℕ
+first-of beyond wrong stood = cond beyond 18 (cond wrong 19 (cond stood 20 0))
+
 unfoldable pub column-fault : Board → (odd : Bool) → (before : List ℕ) → (column : ℕ) → ℕ
-column-fault b o before c =
-    cond (bit-beyond b c) 18 (cond (wrong-parity o c) 19 (cond (stood-earlier before c) 20 0))
+column-fault b o before c = first-of (bit-beyond b c) (wrong-parity o c) (stood-earlier before c)
 
 -- the numbers that come with a place
 abbrev pub has-place : (number : ℕ) → Bool
@@ -44,14 +46,14 @@ has-place n = leb 18 n && leb n 20
 -- even ones
 
 -- the columns before it in its array
-abbrev pub before : Board → (arrays : List ℕ) → (g j : ℕ) → List ℕ
-before b cs g j = take j (drop (g * columns b) cs)
+abbrev pub columns-before : Board → (arrays : List ℕ) → (g j : ℕ) → List ℕ
+columns-before b cs g j = take j (drop (g * columns b) cs)
 
 unfoldable pub fits-at : Board → (point : ℕ) → (arrays : List ℕ) → (g j number : ℕ) → Bool
-fits-at b a cs g j n = fits b (eqb g (a / b .wide)) (before b cs g j) (column b cs g j) n
+fits-at b a cs g j n = fits b (eqb g (a / b .wide)) (columns-before b cs g j) (column b cs g j) n
 
 unfoldable pub fault-at : Board → (point : ℕ) → (arrays : List ℕ) → (g j : ℕ) → ℕ
-fault-at b a cs g j = column-fault b (eqb g (a / b .wide)) (before b cs g j) (column b cs g j)
+fault-at b a cs g j = column-fault b (eqb g (a / b .wide)) (columns-before b cs g j) (column b cs g j)
 
 -- no fault
 abbrev pub no-fault : Fault

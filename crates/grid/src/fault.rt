@@ -10,8 +10,8 @@ pub const REFUSED_COLUMN_PARITY: u32 = 19;
 // A column stood earlier in its array.
 pub const REFUSED_COLUMN_TWICE: u32 = 20;
 
-// What is wrong with the arrays of a dealing first, and where: the number, and the grid row and the column of the
-// place. Number 0: nothing.
+// The first fault of a dealing's arrays: its number, or 0 where there is none, and the grid row and the column where it
+// stands.
 pub struct Fault {
     pub number: u32,
     pub grid_row: u32,

@@ -4,7 +4,7 @@
 use mathlib.Core.Path.{_≡_, refl, sym, _∙_}
 use mathlib.Core.Bool.{Bool, true, false, _&&_, not, cond}
 use mathlib.Core.List.{List}
-use Prim.Native.Nat.{ℕ, zero, suc, _+_, _*_, _-_, _/_, _%_, _^_, _≤_, _<_}
+use Prim.Native.Nat.{ℕ, suc, _+_, _*_, _-_, _/_, _%_, _^_, _≤_, _<_}
 use native.Mathlib.Nat.{div-add-mod', sub-zero}
 use native.Mathlib.Numerals.{add-one}
 use native.Mathlib.Omega.{arith}
@@ -13,7 +13,7 @@ use lib.ListN.{length, getD, take, drop, drop-of-length-le}
 use lib.Seq.{drop-cons}
 use borrow.Author.Tests.{eq-eqb, ne-eqb, lt-ltb, leb-false, not-true, not-false}
 use Rattle.grid.specs.Grid.{Board, columns, arrays-long, bit, column, is-odd, same-parity, member}
-use Rattle.grid.specs.Faults.{column-fault, no-fault, fault-at, fault-from, arrays-fault}
+use Rattle.grid.specs.Faults.{first-of, column-fault, no-fault, fault-at, fault-from, arrays-fault}
 use Rattle.grid.proofs.Counting.{one-left}
 use Rattle.grid.proofs.Faults.{fault-next, fault-here, no-more}
 use Rattle.grid_arrays.specs.Checking.{fitting}
@@ -58,7 +58,7 @@ pub record Due (beyond fits stood : Bool) (n : ℕ) : Type 0 where
   pub then-twice : one beyond ≡ 0 → one fits ≡ 1 → one stood ≡ 1 → n ≡ 20
   pub or-none : one beyond ≡ 0 → one fits ≡ 1 → one stood ≡ 0 → n ≡ 0
 
-due-is : (x y z : Bool) (n : ℕ) → Due x y z n → n ≡ cond x 18 (cond (not y) 19 (cond z 20 0))
+due-is : (x y z : Bool) (n : ℕ) → Due x y z n → n ≡ first-of x (not y) z
 due-is true y z n d = d .bit-first refl
 due-is false false z n d = d .then-parity refl refl
 due-is false true true n d = d .then-twice refl refl refl
@@ -67,13 +67,13 @@ due-is false true false n d = d .or-none refl refl refl
 module _ (b : Board) (o : Bool) (before : List ℕ) (c : ℕ) where
   module _ (limit : ℕ) (beyond fits stood : Bool) (is-limit : limit ≡ 2 ^ b .p) (tested : beyond ≡ leb limit c) (fit : fits ≡ bit (fitting b o) c)
       (among : stood ≡ member c before) where
-    tests : _≡_ {A = ℕ} (cond beyond 18 (cond (not fits) 19 (cond stood 20 0))) (column-fault b o before c)
+    tests : first-of beyond (not fits) stood ≡ column-fault b o before c
     unfolding column-fault
     tests = rw (← is-limit, ← tested, among, fit, fits-is b o c, ← is-limit) (go beyond tested)
       where
         go : (t : Bool) → t ≡ leb limit c
-            → _≡_ {A = ℕ} (cond t 18 (cond (not (ltb c limit && same-parity (is-odd c) o)) 19 (cond (member c before) 20 0)))
-            (cond t 18 (cond (not (same-parity (is-odd c) o)) 19 (cond (member c before) 20 0)))
+            → first-of t (not (ltb c limit && same-parity (is-odd c) o)) (member c before)
+            ≡ first-of t (not (same-parity (is-odd c) o)) (member c before)
         go true e = refl
         go false e = rw (lt-ltb c limit (leb-false limit c (sym e)))
 

@@ -109,7 +109,9 @@ fn is_among(columns: &[u8], column: u8) -> bool
     false
 }
 
-// What is wrong with a column that stands behind some others in its array: 18, 19, 20, the first that fits, or 0.
+// What is wrong with a column that stands behind some others in its array: 18, 19, 20, the first that fits, or 0. All
+// three are found before the first is asked for, so that their order stands in the tests alone. (A column that fits has
+// no bit beyond either.)
 fn column_fault(board: Board, odd: bool, before: &[u8], column: u8) -> u32
     requires { ⌜ board-refusal (board-of board) ≡ 0 ⌝ }
     ensures { λ r. ⌜ r ≡ column-fault (board-of board) odd (now (before .entry)) column ⌝ }

@@ -24,7 +24,7 @@ use Rattle.keys.specs.Promise.{Rule-good, lent-good, dealt-parts}
 use Rattle.keys.proofs.Lists.{length-words, take-words, drop-words, each-cons, each-words, each-head, each-tail}
 use Rattle.keys.proofs.Marks.{marks-set, packed-is, take-marks, drop-marks, length-marks-of}
 use Rattle.keys.proofs.Accepted.{Parts-good}
-use Rattle.keys.proofs.Lending.{accepted-fits}
+use Rattle.keys.proofs.Lending.{accepted-lent}
 use Rattle.keys.proofs.Opening.{row-word-of}
 
 -- WHAT DEAL ACCEPTS
@@ -44,7 +44,7 @@ lent-in b l h =
     let good = bytes-good (l .value) && bytes-good (l .seeds) in
     let bytes = and-right (eqb (deal-refusal b l) 0) (good && bytes-good (l .words)) h in
     let two = and-left good (bytes-good (l .words)) bytes in
-    let fits = accepted-fits b l (eqb-true (deal-refusal b l) 0 (and-left (eqb (deal-refusal b l) 0) (good && bytes-good (l .words)) h)) in
+    let fits = accepted-lent b l (eqb-true (deal-refusal b l) 0 (and-left (eqb (deal-refusal b l) 0) (good && bytes-good (l .words)) h)) in
     let sizes = fits .sizes in
     record {
       board = board-in b (sizes .accepted);

@@ -81,13 +81,13 @@ sizes-fit b l r =
     }
 
 -- and what 18 to 20 leave beside
-pub record Lent-fits (b : Board) (l : Lent) : Type 0 where
+pub record Accepted-lent (b : Board) (l : Lent) : Type 0 where
   pub sizes : Sizes-fit b l
   pub parities : arrays-good (grid-rows b) 0 b (l .point) (l .arrays) ≡ true
 
-pub accepted-fits : (b : Board) (l : Lent) → deal-refusal b l ≡ 0 → Lent-fits b l
+pub accepted-lent : (b : Board) (l : Lent) → deal-refusal b l ≡ 0 → Accepted-lent b l
 unfolding deal-refusal
-accepted-fits b l r =
+accepted-lent b l r =
     let both = neither (sizes-refusal b l) (lent-fault b l .number) r in
     let fit = sizes-fit b l (both .0) in
     record { sizes = fit; parities = no-fault-good b (l .point) (l .arrays) (fit .arrays) (both .1) }

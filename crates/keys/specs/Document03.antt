@@ -65,11 +65,11 @@ key-refusal bs =
     (cond (not (eqb (length bs) (length (header b (h .player)) + grid-rows b * stride b + columns b * row-long b))) 12
     (cond (marks-good (grid-rows b) b (h .rest)) 0 13))))
 
--- 8 is given no more: 18, 19 and 20 of document 02, (i), "all take the place of 8"
+-- a number with 8 again, where document 02, (i), gives 18, 19 or 20, which "all take the place of 8"
 unfoldable pub eight-again : (number : ℕ) → ℕ
 eight-again n = cond (has-place n) 8 n
 
--- THE REFUSALS ARE THESE, of every board, every dealing and every list of numbers
+-- THE REFUSALS ARE THESE, but that 18, 19 and 20 stand for 8: of every board, every dealing and every list of numbers
 pub record Same-refusals : Type 0 where
   pub board : (b : Board) → board-refusal b ≡ Grid.board-refusal b
   pub deal : (b : Board) (l : Lent) → deal-refusal b l ≡ eight-again (Keys.deal-refusal b l)

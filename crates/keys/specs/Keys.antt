@@ -217,7 +217,7 @@ sizes-refusal b l =
     (cond (leb (b .n) (l .point)) 6
     (cond (not (lent-fits b (length (l .value)) (length (l .arrays)) (length (l .seeds)) (length (l .words)))) 7 0))
 
--- what is wrong with the lent arrays first, and where: document 02, (i)
+-- the first fault of the lent arrays, and where it stands: document 02, (i)
 abbrev pub lent-fault : Board → Lent → Fault
 lent-fault b l = arrays-fault b (l .point) (l .arrays)
 

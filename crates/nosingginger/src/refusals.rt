@@ -1,4 +1,4 @@
-// The refusal numbers of documents 01 and 02 by name, as the crate call_answers has them. Assumes nothing.
+// The refusal numbers by name, as the crate call_answers has them. Assumes nothing.
 pub use call_answers::refusals::ACCEPTED;
 pub use call_answers::refusals::REFUSED_COLUMN_BIT;
 pub use call_answers::refusals::REFUSED_COLUMN_PARITY;

@@ -20,7 +20,7 @@ use Rattle.call_answers.specs.Answers.{says, told, Deal-tells}
 use Rattle.call_answers.specs.declared.Answer.{Answer}
 use Rattle.call_answers.specs.declared.DealAnswer.{DealAnswer}
 use Rattle.call_answers.proofs.Telling.{plain-unplaced, faulty-placed}
-use Rattle.nosingginger_c.specs.C.{Through, Value-put, Deal-places, Check-says, Held-says}
+use Rattle.nosingginger_c.specs.C.{Through, Value-put, Deal-through, Check-says, Held-says}
 
 pub value-kept : (n v o : ℕ) → (n ≡ 0 → ⊥) → Value-put n v n o o
 unfolding Value-put
@@ -44,15 +44,15 @@ through n v a r o z s p =
 -- what Deal answers, with the place of a fault behind the pointer
 module _ (p n m w a : ℕ) (v cs ss ws o z f : List ℕ) where
   pub deal-plain : (k : ℕ) (d : DealAnswer) → d ≡ DealAnswer.Number k → Deal-tells p n m w a v cs ss ws (told d) o z
-      → Deal-places p n m w a v cs ss ws k o z f f
-  unfolding Deal-places told
+      → Deal-through p n m w a v cs ss ws k o z f f
+  unfolding Deal-through told
   deal-plain k d e tells =
       let plain = subst (λ (x : DealAnswer). Deal-tells p n m w a v cs ss ws (told x) o z) e tells in
       rw (plain-unplaced p n m w a v cs ss ws o z k plain) (plain, refl)
 
   pub deal-placed : (g : Fault) (d : DealAnswer) (k : ℕ) → d ≡ DealAnswer.Fault g → Deal-tells p n m w a v cs ss ws (told d) o z
-      → k ≡ g .number → Deal-places p n m w a v cs ss ws k o z f (g .«grid_row» ∷ g .column ∷ [])
-  unfolding Deal-places told
+      → k ≡ g .number → Deal-through p n m w a v cs ss ws k o z f (g .«grid_row» ∷ g .column ∷ [])
+  unfolding Deal-through told
   deal-placed g d k e tells number =
       let placed = subst (λ (x : DealAnswer). Deal-tells p n m w a v cs ss ws (told x) o z) e tells in
       rw (number, faulty-placed p n m w a v cs ss ws o z g placed) (placed, refl)

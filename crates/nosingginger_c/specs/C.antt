@@ -21,9 +21,9 @@ Value-put n v r o z = (r ≡ n) × (z ≡ cond (eqb n 0) v o)
 
 -- DEAL: the number returned, and the grid row and the column of its place, where it is 18, 19 or 20, or what stood
 -- there before
-unfoldable pub Deal-places : (p n m w point : ℕ) → (value arrays seeds words : List ℕ) → (r : ℕ)
+unfoldable pub Deal-through : (p n m w point : ℕ) → (value arrays seeds words : List ℕ) → (r : ℕ)
     → (out out-now old new : List ℕ) → Type 0
-Deal-places p n m w a v cs ss ws r o z f g =
+Deal-through p n m w a v cs ss ws r o z f g =
     Deal-tells p n m w a v cs ss ws (record { number = r; place = cond (has-place r) g [] }) o z
     × (g ≡ cond (has-place r) g f)
 

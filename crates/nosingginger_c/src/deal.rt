@@ -1,5 +1,5 @@
 // Deal as a C function. Assumes nothing.
-ghost use Rattle.nosingginger_c.specs.C.{Deal-places};
+ghost use Rattle.nosingginger_c.specs.C.{Deal-through};
 use nosingginger::DealAnswer;
 
 // DEAL: the keys of all players one after another; where the arrays are at fault, the grid row and the column of the
@@ -18,7 +18,7 @@ pub extern "C" fn nsg_deal(
     keys: &mut [u8],
     fault: &mut [u32; 2],
 ) -> u32
-    ensures { λ r. ⌜ Deal-places players positions width «value_bytes» point
+    ensures { λ r. ⌜ Deal-through players positions width «value_bytes» point
         (now (value .entry)) (now (arrays .entry)) (now (seeds .entry)) (now (words .entry)) r
         (now (keys .entry)) (now (keys .exit)) (now (fault .entry)) (now (fault .exit)) ⌝ }
 {

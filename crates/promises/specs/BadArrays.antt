@@ -2,14 +2,15 @@
 -- the term. Assumes nothing.
 use mathlib.Core.Path.{_≡_}
 use mathlib.Core.List.{List, []}
+use mathlib.Core.Logic.{_⊎_}
 use Prim.Native.Nat.{ℕ}
 use mathlib.Core.Bool.{true, false}
 use lib.ListN.{length, getD}
-use Rattle.grid.specs.Grid.{Board, board}
+use Rattle.grid.specs.Grid.{Board, board, grid-rows, arrays-good}
 use Rattle.grid.specs.Faults.{has-place, First-fault}
 unfoldable pub use Rattle.grid.specs.Faults.{Fault-where-bad, Place-is-first}
 use Rattle.call_answers.specs.Answers.{Told, Deal-tells}
-unfoldable pub use Rattle.call_answers.specs.Answers.{Told-once}
+unfoldable pub use Rattle.call_answers.specs.Answers.{Told-apart}
 
 -- what an answer of Deal says of the arrays of a board and a point
 pub record Place-told (b : Board) (point : ℕ) (arrays : List ℕ) (r : Told) : Type 0 where
@@ -22,9 +23,11 @@ pub record Place-told (b : Board) (point : ℕ) (arrays : List ℕ) (r : Told) :
       (record { number = r .number; «grid_row» = getD (r .place) 0 0; column = getD (r .place) 1 0 })
   -- and no other number comes with a place
   pub no-place : has-place (r .number) ≡ false → r .place ≡ []
+  -- no fault is missed: where keys are dealt, or only their room is too short, the arrays are good
+  pub none-missed : (r .number ≡ 0) ⊎ (r .number ≡ 9) → arrays-good (grid-rows b) 0 b point arrays ≡ true
 
-unfoldable pub Deals-place : Type 0
-Deals-place =
+unfoldable pub Deals-first-fault : Type 0
+Deals-first-fault =
     (p n m w point : ℕ) (value arrays seeds words : List ℕ) (r : Told) (out out-now : List ℕ) →
     Deal-tells p n m w point value arrays seeds words r out out-now → Place-told (board p n m w) point arrays r
 
@@ -35,6 +38,6 @@ pub record Bad-arrays : Type 0 where
   -- its place is the first: the number fits there, no smaller one does, and none fits at any earlier place
   pub place-is-first : Place-is-first
   -- of the call: what Deal answers
-  pub deals-place : Deals-place
+  pub deals-first-fault : Deals-first-fault
   -- what it tells fixes its answer
-  pub told-once : Told-once
+  pub told-apart : Told-apart

@@ -1,5 +1,6 @@
--- DOCUMENT 03'S OWN STATEMENTS, where those of the demands ask less of a rule or read less of a key; its opening and its refusals are theirs.
--- proofs/Document03.antt has the term. Assumes nothing.
+-- DOCUMENT 03'S OWN STATEMENTS, where those of the demands ask less of a rule or read less of a key; its opening is
+-- theirs, and its refusals are, but that 18, 19 and 20 stand for its 8. proofs/Document03.antt has the term.
+-- Assumes nothing.
 use Rattle.keys.specs.Document03
 pub use Rattle.call_answers.specs.AsWritten.{Same-call-refusals}
 

@@ -21,7 +21,7 @@ use Rattle.keys.specs.Keys.{Lent, header, key, key-refusal, head-in, table, dea
 use Rattle.keys.specs.Promise.{point-table}
 use Rattle.keys.proofs.Accepted.{passed, first-fits, next-fits, neither}
 use Rattle.keys.proofs.Dealing.{lent-in}
-use Rattle.keys.proofs.Lending.{accepted-fits}
+use Rattle.keys.proofs.Lending.{accepted-lent}
 use Rattle.keys.proofs.Numbers.{one-group}
 use Rattle.call_answers.specs.Answers.{Put-says, key-rule, Deal-says, Long-says, Open-one-says, Open-all-says}
 use Rattle.seed_rows.specs.Rows.{rule}
@@ -130,7 +130,7 @@ module _ (K players size player : ℕ) (keys : List ℕ) (good : bytes-good keys
 keys-some : (b : Board) (l : Lent) → deal-refusal b l ≡ 0 → 0 < b .p * key-long b
 unfolding key-long header
 keys-some b l none =
-    let players = board-in b (accepted-fits b l none .sizes .accepted) .players-least in
+    let players = board-in b (accepted-lent b l none .sizes .accepted) .players-least in
     let one : 0 < key-long b = rw (one-group 0 (omega arith)) (simp length-append (omega arith)) in
     omega (arith, players, mul-le-mul-left (b .p) one)
 

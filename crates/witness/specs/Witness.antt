@@ -1,5 +1,5 @@
 -- What the witnesses promise: `Shows-the-piece` and `Both-ways`. Each says the number and every lent byte afterwards,
--- of refused calls too. The numbers are those of documents 01 and 02. Assumes nothing: these are definitions.
+-- of refused calls too. The numbers are those of the calls. Assumes nothing: these are definitions.
 use mathlib.Core.Path.{_≡_}
 use mathlib.Core.Bool.{cond}
 use mathlib.Core.List.{List}

@@ -4,7 +4,7 @@ use crate::lent::Lent;
 use crate::tally::{Operation, Tally};
 use nosingginger::{raw, Refusal};
 use reference::board::Board;
-use reference::deal::column_fault;
+use reference::deal::faulty_columns;
 use reference::draw::Generator;
 
 /// The arguments of Deal, but for its output.
@@ -73,17 +73,6 @@ pub struct Comparison {
 /// 0 or the refusal's number.
 fn number_of<T>(result: &Result<T, Refused>) -> u32 {
     result.as_ref().err().map_or(0, |refused| refused.number)
-}
-
-/// How many columns have a fault.
-fn faulty_columns(board: &Board, piece_row: usize, arrays: &[u8]) -> usize {
-    let mut count = 0;
-    for (grid_row, array) in arrays.chunks(board.columns()).enumerate() {
-        let ones = u32::from(grid_row == piece_row);
-        let faults = (0..array.len()).filter(|&column| column_fault(board.players, ones, &array[..column], array[column]).is_some());
-        count += faults.count();
-    }
-    count
 }
 
 impl Comparison {

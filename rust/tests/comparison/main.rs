@@ -1,6 +1,6 @@
 //! The proved library, called through this crate, against the second implementation: every operation, at its limits and on damaged input.
 //! Each answer, with the place that some of Deal's have, and each written byte must be the same, a refused call must leave every lent byte,
-//! and an accepted one every byte past its result. Every refusal that documents 01 and 02 let an operation give must have been met.
+//! and an accepted one every byte past its result. Every refusal that an operation can give must have been met.
 //!
 //! NOSINGGINGER_CALLS asks for more calls than 200,000; NOSINGGINGER_SEED, a decimal number, for other draws.
 

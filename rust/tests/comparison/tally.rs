@@ -17,7 +17,7 @@ pub enum Operation {
     SensorPosition,
 }
 
-/// The operations in their order, with the numbers that documents 01 and 02 let each give.
+/// The operations in their order, with the numbers that each can give.
 const OPERATIONS: [(Operation, &str, &[usize]); 11] = [
     (Operation::KeyLength, "key length", &[1, 2, 3, 4, 5]),
     (Operation::Deal, "deal", &[1, 2, 3, 4, 5, 6, 7, 9, 18, 19, 20]),

@@ -11,7 +11,7 @@ use Rattle.keys.specs.Keys.{Lent, keys-from, lent}
 use Rattle.writer.specs.Written.{Wrote}
 use Rattle.writer.proofs.Laws.{wrote-nothing}
 use Rattle.seed_rows.specs.Rows.{rule}
-use Rattle.keys.proofs.Lending.{Lent-fits, accepted-fits}
+use Rattle.keys.proofs.Lending.{Accepted-lent, accepted-lent}
 use Rattle.deal_keys.proofs.KeyBytes.{Begun, front-room, word-room, next-front-room, again-room, turn, all-written}
 use Rattle.deal_keys.proofs.deal_keys.Statement.{statement}
 use Rattle.deal_keys.proofs.deal_keys.Tie as tie
@@ -34,8 +34,8 @@ abbrev lent-to : tie.Start Inv-loop μ-loop → Lent
 lent-to s = let a = s .args in lent (a .point) (now (a .value)) (now (a .arrays)) (now (a .seeds)) (now (a .words))
 
 -- nothing is refused
-facts : (s : tie.Start Inv-loop μ-loop) → Lent-fits (board-of (s .args .board)) (lent-to s)
-facts s = accepted-fits (board-of (s .args .board)) (lent-to s) (s .pre .0)
+facts : (s : tie.Start Inv-loop μ-loop) → Accepted-lent (board-of (s .args .board)) (lent-to s)
+facts s = accepted-lent (board-of (s .args .board)) (lent-to s) (s .pre .0)
 
 -- where the call began, from the place at which the loop is entered
 abbrev entry : tie.After-slice-known3 Inv-loop μ-loop → tie.Start Inv-loop μ-loop
