@@ -2,7 +2,7 @@
 use mathlib.Core.Path.{_≡_, refl, sym, ap, _∙_, subst⁻¹}
 use mathlib.Core.Bool.{Bool, true, false, cond}
 use mathlib.Core.List.{List, [], _∷_}
-use mathlib.Core.Logic.{_⊎_, ⊎-elim}
+use mathlib.Core.Logic.{_⊎_, inl, inr, ⊎-elim}
 use Prim.Native.Nat.{ℕ, _*_, _≤_, _<_}
 use native.Mathlib.Omega.{arith}
 use borrow.Author.Tests.{eqb-true, eqb-false}
@@ -71,9 +71,12 @@ place-kept d rest h = go (eqb d 0) refl
     go false e = refl
 
 -- 9, or nothing
-nine-or-none : (t : Bool) (n : ℕ) → n ≡ cond t 9 0 → (n < 18) × (n ≡ 8 → ⊥)
-nine-or-none true n e = (omega arith, λ z. omega arith)
-nine-or-none false n e = (omega arith, λ z. omega arith)
+nine-or-none : (t : Bool) (n : ℕ) → n ≡ cond t 9 0 → (n ≡ 9) ⊎ (n ≡ 0)
+nine-or-none true n e = inl e
+nine-or-none false n e = inr e
+
+below-18 : (n : ℕ) → (n ≡ 9) ⊎ (n ≡ 0) → n < 18
+below-18 n h = ⊎-elim (λ e. omega arith) (λ e. omega arith) h
 
 module _ (p n m w a : ℕ) (v cs ss ws : List ℕ) (r : Told) (o z : List ℕ) (tells : Deal-tells p n m w a v cs ss ws r o z) where
   abbrev on : Board
@@ -87,7 +90,7 @@ module _ (p n m w a : ℕ) (v cs ss ws : List ℕ) (r : Told) (o z : List ℕ) (
 
   -- the number is one of 1 to 7, the fault's, or 9 or 0
   number-by : (C : Type 0) → (r .number ≤ 7 → (r .number ≡ 0 → ⊥) → C) → (r .number ≡ f .number → 18 ≤ r .number → C)
-      → (deal-refusal on l ≡ 0 → (r .number < 18) × (r .number ≡ 8 → ⊥) → C) → C
+      → (deal-refusal on l ≡ 0 → (r .number ≡ 9) ⊎ (r .number ≡ 0) → C) → C
   unfolding Deal-tells Deal-says deal-refusal
   number-by C by-sizes by-fault by-room =
       let short = ltb (length o) (p * key-long on) in
@@ -96,12 +99,15 @@ module _ (p n m w a : ℕ) (v cs ss ws : List ℕ) (r : Told) (o z : List ℕ) (
       (λ is some. by-fault is (omega (arith, placed-large (f .number) (fault-placed on l some))))
       (λ none is. by-room none (nine-or-none short (r .number) is))
 
-  pub never-8 : r .number ≡ 8 → ⊥
-  never-8 e = number-by ⊥ (λ few some. omega arith) (λ is large. omega arith) (λ none room. room .1 e)
+  -- between 7 and 18 there is 9 alone
+  pub never-given : (k : ℕ) → 7 < k → k < 18 → (k ≡ 9 → ⊥) → r .number ≡ k → ⊥
+  never-given k above under other e =
+      number-by ⊥ (λ few some. omega arith) (λ is large. omega arith)
+      (λ none room. ⊎-elim (λ nine. other (sym e ∙ nine)) (λ zero. omega arith) room)
 
-  -- 0 and 9 are answered where the arrays are good
-  pub none-missed : (r .number ≡ 0) ⊎ (r .number ≡ 9) → arrays-good (grid-rows on) 0 on a cs ≡ true
-  none-missed h =
+  -- and there, and with 0, the arrays are good
+  pub none-missed : (k : ℕ) → 7 < k → k < 18 → (r .number ≡ 0) ⊎ (r .number ≡ k) → arrays-good (grid-rows on) 0 on a cs ≡ true
+  none-missed k above under h =
       number-by (arrays-good (grid-rows on) 0 on a cs ≡ true) (λ few some. absurd (⊎-elim (λ e. some e) (λ e. omega arith) h))
       (λ is large. absurd (⊎-elim (λ e. omega arith) (λ e. omega arith) h)) (λ none room. accepted-lent on l none .parities)
 
@@ -111,7 +117,7 @@ module _ (p n m w a : ℕ) (v cs ss ws : List ℕ) (r : Told) (o z : List ℕ) (
   place-is =
       let short = ltb (length o) (p * key-long on) in
       let number : r .number ≡ or-else (deal-refusal on l) (cond short 9 0) = answer-is _ _ (r .number) o z (tells .1) in
-      rw (number, place-kept (deal-refusal on l) (cond short 9 0) (nine-or-none short (cond short 9 0) refl .0)) (tells .0)
+      rw (number, place-kept (deal-refusal on l) (cond short 9 0) (below-18 (cond short 9 0) (nine-or-none short (cond short 9 0) refl))) (tells .0)
 
   place-long : length (r .place) ≡ cond (has-place (r .number)) 2 0
   place-long = ap (λ (xs : List ℕ). length xs) place-is ∙ go (has-place (r .number))
@@ -136,7 +142,7 @@ module _ (p n m w a : ℕ) (v cs ss ws : List ℕ) (r : Told) (o z : List ℕ) (
     number-is : r .number ≡ f .number
     number-is =
         number-by (r .number ≡ f .number) (λ few some. absurd (omega (arith, least))) (λ is large. is)
-        (λ none room. absurd (omega (arith, least)))
+        (λ none room. absurd (omega (arith, least, below-18 (r .number) room)))
 
     pub first-told : First-fault on a cs (record { number = r .number; «grid_row» = getD (r .place) 0 0; column = getD (r .place) 1 0 })
     unfolding made Place-is-first
