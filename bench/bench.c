@@ -10,7 +10,7 @@
 #include <string.h>
 #include <time.h>
 
-enum { SEED = NSG_SEED_BYTES, MOST_ROW = NSG_MOST_EXPANDED_BYTES, GUARD = 64 };
+enum { SEED = NSG_SEED_BYTES, MOST_ROW = NSG_MOST_EXPANDED_BYTES, GUARD = 64, SQUARES = 64 };
 enum { PASSES = 8, MOST_TASKS = 9, MOST_ROUNDS = 4000, LEAST_ROUNDS = 10 }; /* rounds of a race in each pass */
 
 static const double TURN = 20e-6; /* seconds that a contender's turn takes about, if one call is not longer */
@@ -23,19 +23,28 @@ enum { OURS, PLAIN, LIBSODIUM, CONTENDERS };
 static const struct contender {
     const char *name;
     deal_call *deal;
-    one_slice_call *open_all, *join_keys, *expand;
+    open_one_call *open_one;
+    one_slice_call *open_all, *join_keys;
+    expand_call *expand;
 } contenders[CONTENDERS] = {
-    {"ours", nsg_deal, nsg_open_all, nsg_join_keys, nsg_expand},
-    {"plain C", plain_deal, plain_open_all, plain_join_keys, plain_expand},
-    {"libsodium", libsodium_deal, libsodium_open_all, libsodium_join_keys, libsodium_expand},
+    {"ours", nsg_deal, nsg_open_one, nsg_open_all, nsg_join_keys, nsg_expand},
+    {"plain C", plain_deal, plain_open_one, plain_open_all, plain_join_keys, plain_expand},
+    {"libsodium", libsodium_deal, libsodium_open_one, libsodium_open_all, libsodium_join_keys, libsodium_expand},
 };
 
-/* BearSSL XORs the key stream into the bytes that are there. */
-static uint32_t bearssl_expand(const uint8_t *seed, uint64_t seed_length, uint8_t *out, uint64_t length)
+/* BearSSL XORs the key stream into the bytes that are there. It begins with a block, so a head goes through a block of its own. */
+static uint32_t bearssl_expand(const uint8_t *seed, uint64_t seed_length, uint64_t start, uint8_t *out, uint64_t length)
 {
     static const uint8_t nonce[12];
+    size_t head = head_bytes(start, length);
     (void)seed_length;
-    br_chacha20_ct_run(seed, nonce, 0, out, length);
+    if (head > 0) {
+        uint8_t block[64] = {0};
+        memcpy(block + start % 64, out, head);
+        br_chacha20_ct_run(seed, nonce, (uint32_t)(start / 64), block, 64);
+        memcpy(out, block + start % 64, head);
+    }
+    br_chacha20_ct_run(seed, nonce, (uint32_t)((start + head) / 64), out + head, length - head);
     return 0;
 }
 
@@ -51,6 +60,7 @@ struct match {
     uint32_t players, positions, width, value_bytes, point;
     uint64_t arrays_length, seeds_length, words_length, key_length, keys_length, table_length;
     uint8_t value[16], *arrays, *seeds, *words, *keys;
+    uint32_t squares[SQUARES]; /* what Open one opens in turn */
 };
 
 static void *bytes(uint64_t length)
@@ -119,25 +129,28 @@ static struct match drawn_match(uint32_t players, uint32_t positions, uint32_t w
 
 /* ---- tasks: one call of a contender */
 
-enum work { EXPAND, OPEN_ALL, DEAL, JOIN_KEYS };
+enum work { EXPAND, OPEN_ONE, OPEN_ALL, DEAL, JOIN_KEYS };
 
 struct task {
     enum work work;
     const struct contender *by;
     const struct match *match;
-    one_slice_call *expand; /* for EXPAND */
-    uint64_t length;        /* for EXPAND */
-    uint8_t *out;           /* has room for what the task writes */
+    expand_call *expand; /* for EXPAND */
+    uint64_t length;     /* for EXPAND */
+    uint8_t *out;        /* has room for what the task writes */
 };
 
-static uint32_t done(const struct task *t)
+/* Makes the task's call; `before` were made in this turn. */
+static uint32_t done(const struct task *t, int before)
 {
     static const uint8_t seed[SEED] = {1, 2, 3};
     const struct match *m = t->match;
     uint32_t fault[NSG_FAULT_NUMBERS]; /* stays as it is: no deal here is refused */
     switch (t->work) {
     case EXPAND:
-        return t->expand(seed, SEED, t->out, t->length);
+        return t->expand(seed, SEED, 0, t->out, t->length);
+    case OPEN_ONE:
+        return t->by->open_one(m->keys, m->key_length, m->squares[before % SQUARES], t->out, m->value_bytes);
     case OPEN_ALL:
         return t->by->open_all(m->keys, m->key_length, t->out, m->table_length);
     case JOIN_KEYS:
@@ -158,30 +171,52 @@ static void same(const char *what, const char *who, uint32_t answer, const uint8
         fail(what, who, "bytes differ");
 }
 
-/* All expansions of a row's lengths; bytes past the length stay. */
+/* All expansions of a row's lengths from some starts are those bytes of BearSSL's whole key stream; bytes past the length stay. */
 static void compare_expansions(void)
 {
-    uint8_t *seed = drawn_bytes(SEED), *expected = bytes(MOST_ROW), *given = bytes(MOST_ROW);
-    for (uint64_t length = 0; length <= MOST_ROW; length++) {
-        memset(expected, 0xAA, MOST_ROW);
-        uint32_t answer = nsg_expand(seed, SEED, expected, length);
-        same("expand", "ours", answer, expected, expected, 0);
-        for (int i = PLAIN; i < CONTENDERS; i++) {
-            memset(given, 0xAA, MOST_ROW);
-            answer = contenders[i].expand(seed, SEED, given, length);
-            same("expand", contenders[i].name, answer, expected, given, MOST_ROW);
+    static const uint64_t starts[] = {0, 1, 63, 64, 65, 127, 128, 777, 1920, 3001, 4080, 4095, 4096};
+    const uint64_t room = MOST_ROW + GUARD;
+    uint8_t *seed = drawn_bytes(SEED), *whole = bytes(MOST_ROW), *expected = bytes(room), *given = bytes(room);
+    memset(whole, 0, MOST_ROW);
+    bearssl_expand(seed, SEED, 0, whole, MOST_ROW);
+    for (size_t k = 0; k < sizeof starts / sizeof starts[0]; k++)
+        for (uint64_t length = 0; starts[k] + length <= MOST_ROW; length++) {
+            memset(expected, 0xAA, room);
+            memcpy(expected, whole + starts[k], length);
+            for (int i = 0; i < CONTENDERS; i++) {
+                memset(given, 0xAA, room);
+                uint32_t answer = contenders[i].expand(seed, SEED, starts[k], given, length);
+                same("expand", contenders[i].name, answer, expected, given, room);
+            }
+            memset(given, 0xAA, room);
+            memset(given, 0, length);
+            uint32_t answer = bearssl_expand(seed, SEED, starts[k], given, length);
+            same("expand", "BearSSL", answer, expected, given, room);
         }
-        memset(given, 0xAA, MOST_ROW);
-        memset(given, 0, length);
-        answer = bearssl_expand(seed, SEED, given, length);
-        same("expand", "BearSSL", answer, expected, given, MOST_ROW);
-    }
     free(seed);
+    free(whole);
     free(expected);
     free(given);
 }
 
-/* All contenders deal the same keys, open each of them as the same table, and join them to the piece alone. The match keeps its keys. */
+/* All contenders open a square as its entry of the key's table: each square of a small board, some of a large one and its last. */
+static void compare_squares(const struct match *m, const uint8_t *key, const uint8_t *table)
+{
+    uint8_t expected[NSG_MOST_VALUE_BYTES + GUARD], given[sizeof expected];
+    const int step = 1 + (int)m->positions / 512;
+    for (int position = (int)m->positions - 1; position >= 0; position -= step) {
+        memset(expected, 0xAA, sizeof expected);
+        memcpy(expected, table + (size_t)position * m->value_bytes, m->value_bytes);
+        for (int i = 0; i < CONTENDERS; i++) {
+            memset(given, 0xAA, sizeof given);
+            uint32_t answer = contenders[i].open_one(key, m->key_length, (uint32_t)position, given, m->value_bytes);
+            same("open one", contenders[i].name, answer, expected, given, sizeof given);
+        }
+    }
+}
+
+/* All contenders deal the same keys, open each of them as the same table and squares, and join them to the piece alone. The match keeps
+   its keys. */
 static void compare_match(struct match *m)
 {
     uint64_t keys = m->keys_length + GUARD, table = m->table_length + GUARD;
@@ -190,7 +225,7 @@ static void compare_match(struct match *m)
     for (int i = 0; i < CONTENDERS; i++) {
         struct task t = {.work = DEAL, .by = &contenders[i], .match = m, .out = i == OURS ? m->keys : dealt};
         memset(t.out, 0xAA, keys);
-        uint32_t answer = done(&t);
+        uint32_t answer = done(&t, 0);
         same("deal", contenders[i].name, answer, m->keys, t.out, keys);
     }
     memset(joined, 0, table);
@@ -199,16 +234,19 @@ static void compare_match(struct match *m)
     for (int i = 0; i < CONTENDERS; i++) {
         memset(given, 0xAA, table);
         struct task t = {.work = JOIN_KEYS, .by = &contenders[i], .match = m, .out = given};
-        uint32_t answer = done(&t);
+        uint32_t answer = done(&t, 0);
         same("join keys", contenders[i].name, answer, joined, given, table);
     }
-    for (uint32_t player = 0; player < m->players; player++)
+    for (uint32_t player = 0; player < m->players; player++) {
+        const uint8_t *key = m->keys + player * m->key_length;
         for (int i = 0; i < CONTENDERS; i++) {
             uint8_t *out = i == OURS ? opened : given;
             memset(out, 0xAA, table);
-            uint32_t answer = contenders[i].open_all(m->keys + player * m->key_length, m->key_length, out, m->table_length);
+            uint32_t answer = contenders[i].open_all(key, m->key_length, out, m->table_length);
             same("open all", contenders[i].name, answer, opened, out, table);
         }
+        compare_squares(m, key, opened);
+    }
     free(dealt);
     free(joined);
     free(opened);
@@ -239,7 +277,7 @@ static double turn(const struct task *t, int calls)
 {
     double began = seconds();
     for (int i = 0; i < calls; i++)
-        done(t);
+        done(t, i);
     return (seconds() - began) / calls;
 }
 
@@ -308,18 +346,21 @@ static const struct {
 };
 enum { EXPANSIONS = sizeof expansions / sizeof expansions[0] };
 
+/* In each turn Open one opens square `first`, then the one `step` squares on, and so on, around the board's end. The last board is for Open
+   one alone. */
 static const struct {
     const char *name;
-    uint32_t players, positions, width, value_bytes;
-    struct limits open_all, deal;
+    uint32_t players, positions, width, value_bytes, first, step;
+    struct limits open_one, open_all, deal;
 } boards[] = {
-    {"p 4, N 72, μ 24, w 1", 4, 72, 24, 1, {0.65, 0.80}, {0.80, 0}},
-    {"p 6, N 72, μ 48, w 1", 6, 72, 48, 1, {0.65, 0.80}, {0.80, 0}},
-    {"p 2, N 256, μ 256, w 16", 2, 256, 256, 16, {0.58, 0}, {0.80, 0}},
-    {"p 3, N 65,536, μ 256, w 1", 3, 65536, 256, 1, {0.60, 0}, {0.80, 0}},
-    {"p 6, N 4,096, μ 256, w 16", 6, 4096, 256, 16, {0.58, 0}, {0.80, 0}},
+    {"p 4, N 72, μ 24, w 1", 4, 72, 24, 1, 71, 25, {1.00, 0}, {0.65, 0.80}, {0.80, 0}},
+    {"p 6, N 72, μ 48, w 1", 6, 72, 48, 1, 71, 25, {1.00, 0}, {0.65, 0.80}, {0.80, 0}},
+    {"p 2, N 256, μ 256, w 16", 2, 256, 256, 16, 255, 0, {1.00, 0}, {0.58, 0}, {0.80, 0}},
+    {"p 3, N 65,536, μ 256, w 1", 3, 65536, 256, 1, 65535, 257, {0, 0}, {0.60, 0}, {0.80, 0}},
+    {"p 6, N 4,096, μ 256, w 16", 6, 4096, 256, 16, 4095, 257, {0, 0}, {0.58, 0}, {0.80, 0}},
+    {"p 3, N 256, μ 256, w 5, a cell across two blocks", 3, 256, 256, 5, 12, 64, {0, 0}, {0, 0}, {0, 0}},
 };
-enum { BOARDS = sizeof boards / sizeof boards[0], JOINED_BOARD = 1 };
+enum { BOARDS = sizeof boards / sizeof boards[0], WHOLE_BOARDS = BOARDS - 1, JOINED_BOARD = 1, EXPANDED_BOARD = 2 };
 
 /* Two families of three boards, of width 256 and values of one byte: N grows at one p, p grows at one N. */
 static const struct {
@@ -332,9 +373,10 @@ static const struct {
 
 static struct match matches[BOARDS], growing[2][3];
 
-/* All races. BearSSL runs in the races of expansion too, and our Open all in the race of Join keys, each as the fourth. */
+/* All races. BearSSL runs in the races of expansion too, our Expand in one race of Open one and our Open all in the race of Join keys,
+   each as the fourth. */
 static struct {
-    struct race expand[EXPANSIONS], open_all[BOARDS], deal[BOARDS], join_keys, growth[2];
+    struct race expand[EXPANSIONS], open_one[BOARDS], open_all[WHOLE_BOARDS], deal[WHOLE_BOARDS], join_keys, growth[2];
 } races;
 enum { RACES = sizeof races / sizeof(struct race) };
 
@@ -353,10 +395,16 @@ static void prepare(void)
                                                   .length = expansions[k].length});
     for (int k = 0; k < BOARDS; k++) {
         matches[k] = drawn_match(boards[k].players, boards[k].positions, boards[k].width, boards[k].value_bytes);
+        for (uint32_t i = 0; i < SQUARES; i++)
+            matches[k].squares[i] = (boards[k].first + i * boards[k].step) % boards[k].positions;
         compare_match(&matches[k]);
-        enter_all(&races.open_all[k], OPEN_ALL, &matches[k]);
-        enter_all(&races.deal[k], DEAL, &matches[k]);
+        enter_all(&races.open_one[k], OPEN_ONE, &matches[k]);
+        if (k < WHOLE_BOARDS) {
+            enter_all(&races.open_all[k], OPEN_ALL, &matches[k]);
+            enter_all(&races.deal[k], DEAL, &matches[k]);
+        }
     }
+    enter(&races.open_one[EXPANDED_BOARD], (struct task){.work = EXPAND, .expand = nsg_expand, .length = MOST_ROW});
     enter_all(&races.join_keys, JOIN_KEYS, &matches[JOINED_BOARD]);
     enter(&races.join_keys, (struct task){.work = OPEN_ALL, .by = &contenders[OURS], .match = &matches[JOINED_BOARD]});
     for (int f = 0; f < 2; f++)
@@ -405,10 +453,22 @@ static void print_table(void)
     for (int k = 0; k < EXPANSIONS; k++)
         print_row("expand", expansions[k].name, &races.expand[k], expansions[k].limits);
     for (int k = 0; k < BOARDS; k++)
+        print_row("open one,", boards[k].name, &races.open_one[k], boards[k].open_one);
+    for (int k = 0; k < WHOLE_BOARDS; k++)
         print_row("open all,", boards[k].name, &races.open_all[k], boards[k].open_all);
-    for (int k = 0; k < BOARDS; k++)
+    for (int k = 0; k < WHOLE_BOARDS; k++)
         print_row("deal,", boards[k].name, &races.deal[k], boards[k].deal);
     print_row("join keys,", boards[JOINED_BOARD].name, &races.join_keys, (struct limits){0, 0});
+}
+
+static void print_open_one(void)
+{
+    const struct timing *t = races.open_one[EXPANDED_BOARD].timings, *open = &t[OURS], *expand = &t[CONTENDERS];
+    puts("\n## Open one against Expand\n\n"
+         "| board | open one, ns | expand 4,096 bytes, ns | open one / expand | at most | goal |\n|---|---:|---:|---:|---:|---:|");
+    printf("| %s, position %u | %.0f | %.0f |", boards[EXPANDED_BOARD].name, boards[EXPANDED_BOARD].first, open->best, expand->best);
+    print_ratio(open->best / expand->best, 0.25);
+    puts(" 0.08 |");
 }
 
 static void print_join(void)
@@ -480,6 +540,7 @@ int main(void)
         most = each > most ? each : most;
     }
     print_table();
+    print_open_one();
     print_join();
     print_peer();
     print_growth();

@@ -7,14 +7,24 @@ typedef uint32_t deal_call(uint32_t players, uint32_t positions, uint32_t width,
                            const uint8_t *value, uint64_t value_length, const uint8_t *arrays, uint64_t arrays_length,
                            const uint8_t *seeds, uint64_t seeds_length, const uint8_t *words, uint64_t words_length, uint8_t *keys,
                            uint64_t keys_length, uint32_t fault[2]);
-/* Open all, Join keys and Expand: from a key, from all keys, from a seed. */
+/* Open all and Join keys: from a key, from all keys. */
 typedef uint32_t one_slice_call(const uint8_t *in, uint64_t in_length, uint8_t *out, uint64_t out_length);
+typedef uint32_t open_one_call(const uint8_t *key, uint64_t key_length, uint32_t position, uint8_t *out, uint64_t out_length);
+typedef uint32_t expand_call(const uint8_t *seed, uint64_t seed_length, uint64_t start, uint8_t *out, uint64_t out_length);
 
 deal_call plain_deal, libsodium_deal;
 one_slice_call plain_open_all, libsodium_open_all;
 one_slice_call plain_join_keys, libsodium_join_keys;
-one_slice_call plain_expand, libsodium_expand;
+open_one_call plain_open_one, libsodium_open_one;
+expand_call plain_expand, libsodium_expand;
 
-/* What scheme.c is given by a cipher: XORs the first `length` bytes of a seed's key stream into `out`. */
-void plain_add_row(const uint8_t *seed, uint8_t *out, size_t length);
-void libsodium_add_row(const uint8_t *seed, uint8_t *out, size_t length);
+/* What scheme.c is given by a cipher: XORs a stretch of a seed's key stream, `length` bytes from byte `start` on, into `out`. */
+void plain_add_stretch(const uint8_t *seed, size_t start, uint8_t *out, size_t length);
+void libsodium_add_stretch(const uint8_t *seed, size_t start, uint8_t *out, size_t length);
+
+/* What a stretch has of a block of 64 bytes that it begins inside of; 0 where it begins with a block. */
+static inline size_t head_bytes(uint64_t start, uint64_t length)
+{
+    size_t head = (64 - start % 64) % 64;
+    return head < length ? head : length;
+}

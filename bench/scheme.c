@@ -1,6 +1,6 @@
-/* The scheme of document 01 written plainly in C, over the cipher that PEER names (plain or libsodium): Deal, Open all and Join keys.
-   It turns away what document 01 turns away, with one number for all of it, so that no bytes lead it out of its slices; a refusal writes
-   nothing, not even the place of a bad column. */
+/* The scheme of document 01 written plainly in C, over the cipher that PEER names (plain or libsodium): Deal, Open one, Open all and Join
+   keys. It turns away what document 01 turns away, with one number for all of it, so that no bytes lead it out of its slices; a refusal
+   writes nothing, not even the place of a bad column. */
 #include "contenders.h"
 #include <string.h>
 
@@ -82,28 +82,51 @@ static int marks_good(const struct board *b, const uint8_t *body)
     return 1;
 }
 
-/* XORs the key's table into `out`, grid row by grid row: over the marked columns, word and row. */
+/* Reads a key as a whole; answers where the body begins, or NULL. */
+static const uint8_t *read_key(const uint8_t *key, uint64_t key_length, struct board *b)
+{
+    const uint8_t *end = key + key_length, *body = read_header(key, end, b);
+    return body != NULL && (size_t)(end - body) == b->body_bytes && marks_good(b, body) ? body : NULL;
+}
+
+/* XORs a stretch of grid row g's shares into `out`, `length` bytes from byte `start` on: over the marked columns, word and row. */
+static void add_shares(const struct board *b, const uint8_t *body, size_t g, size_t start, uint8_t *out, size_t length)
+{
+    const uint8_t *words = body + b->grid_rows * b->stride + start, *part = body + g * b->stride, *seed = part + b->mark_bytes;
+    for (uint32_t marks = read_marks(b, part); marks != 0; marks &= marks - 1, seed += SEED) {
+        xor_into(out, words + (size_t)__builtin_ctz(marks) * b->row_bytes, length);
+        OF(add_stretch)(seed, start, out, length);
+    }
+}
+
+/* XORs the key's table into `out`, grid row by grid row. */
 static void add_table(const struct board *b, const uint8_t *body, uint8_t *out)
 {
-    const uint8_t *words = body + b->grid_rows * b->stride;
     size_t left = b->table_bytes;
-    for (size_t g = 0; g < b->grid_rows; g++, body += b->stride) {
+    for (size_t g = 0; g < b->grid_rows; g++) {
         size_t length = left < b->row_bytes ? left : b->row_bytes;
-        const uint8_t *seed = body + b->mark_bytes;
-        for (uint32_t marks = read_marks(b, body); marks != 0; marks &= marks - 1, seed += SEED) {
-            xor_into(out, words + (size_t)__builtin_ctz(marks) * b->row_bytes, length);
-            OF(add_row)(seed, out, length);
-        }
+        add_shares(b, body, g, 0, out, length);
         out += length;
         left -= length;
     }
 }
 
+uint32_t OF(open_one)(const uint8_t *key, uint64_t key_length, uint32_t position, uint8_t *out, uint64_t out_length)
+{
+    struct board b;
+    const uint8_t *body = read_key(key, key_length, &b);
+    if (body == NULL || position >= b.positions || out_length < b.value_bytes)
+        return 1;
+    memset(out, 0, b.value_bytes);
+    add_shares(&b, body, position / b.width, (size_t)(position % b.width) * b.value_bytes, out, b.value_bytes);
+    return 0;
+}
+
 uint32_t OF(open_all)(const uint8_t *key, uint64_t key_length, uint8_t *out, uint64_t out_length)
 {
     struct board b;
-    const uint8_t *end = key + key_length, *body = read_header(key, end, &b);
-    if (body == NULL || (size_t)(end - body) != b.body_bytes || !marks_good(&b, body) || out_length < b.table_bytes)
+    const uint8_t *body = read_key(key, key_length, &b);
+    if (body == NULL || out_length < b.table_bytes)
         return 1;
     memset(out, 0, b.table_bytes);
     add_table(&b, body, out);
@@ -195,7 +218,7 @@ uint32_t OF(deal)(uint32_t players, uint32_t positions, uint32_t width, uint32_t
     for (size_t j = 0; j + 1 < b.columns; j++)
         xor_into(last, words + j * b.row_bytes, b.row_bytes);
     for (size_t j = 0; j < b.columns; j++)
-        OF(add_row)(seeds + (point / width * b.columns + j) * SEED, last, b.row_bytes);
+        OF(add_stretch)(seeds + (point / width * b.columns + j) * SEED, 0, last, b.row_bytes);
     for (; b.player < players; b.player++) {
         keys = put_header(keys, &b);
         for (size_t g = 0; g < b.grid_rows; g++, keys += b.stride)

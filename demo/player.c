@@ -4,7 +4,7 @@
      player join            reads all keys of a match one after another; writes each position's joined value in hexadecimal, one on a line
      player length P N M W  writes the length of a key for P players, N positions, width M and values of W bytes
      player width P N       writes the grid's width for P players and N positions
-     player expand N        reads a seed; writes the first N bytes of its row in hexadecimal
+     player expand START N  reads a seed; writes N bytes of its row in hexadecimal, from byte START on
      player sensor S        writes the position of sensor S of the spring board
      player sensors         writes the position of each sensor, one on a line
    A refused call is the line `refused n`. The status is 2 when the words are not understood. */
@@ -108,10 +108,11 @@ static int choose_width(const char *players, const char *positions)
     return 0;
 }
 
-static int expand(const char *count)
+static int expand(const char *start, const char *count)
 {
-    uint64_t length = fread(input, 1, sizeof input, stdin), wanted = strtoul(count, NULL, 10);
-    uint32_t number = nsg_expand(input, length, output, wanted < sizeof output ? wanted : sizeof output);
+    uint64_t length = fread(input, 1, sizeof input, stdin);
+    uint64_t from = strtoull(start, NULL, 10), wanted = strtoull(count, NULL, 10);
+    uint32_t number = nsg_expand(input, length, from, output, wanted < sizeof output ? wanted : sizeof output);
     if (number != NSG_ACCEPTED)
         return refused(number);
     put_line(output, (uint32_t)wanted);
@@ -146,12 +147,12 @@ int main(int count, char **words)
         return key_length(words + 2);
     if (count == 4 && strcmp(words[1], "width") == 0)
         return choose_width(words[2], words[3]);
-    if (count == 3 && strcmp(words[1], "expand") == 0)
-        return expand(words[2]);
+    if (count == 4 && strcmp(words[1], "expand") == 0)
+        return expand(words[2], words[3]);
     if (count == 3 && strcmp(words[1], "sensor") == 0)
         return sensor_position(number_of(words[2]));
     if (count == 2 && strcmp(words[1], "sensors") == 0)
         return sensors();
-    fprintf(stderr, "player: check | open | join | length P N M W | width P N | expand N | sensor S | sensors\n");
+    fprintf(stderr, "player: check | open | join | length P N M W | width P N | expand START N | sensor S | sensors\n");
     return 2;
 }

@@ -55,7 +55,7 @@ extern "C" {
 #endif
 
 /* The version, which `pkg-config --modversion nosingginger` tells too. */
-#define NSG_VERSION "0.2.0"
+#define NSG_VERSION "0.3.0"
 
 /* THE BOUNDS. */
 #define NSG_LEAST_PLAYERS 2u
@@ -66,13 +66,13 @@ extern "C" {
 #define NSG_MOST_GRID_ROWS 256u
 #define NSG_MOST_COLUMNS 32u
 #define NSG_SEED_BYTES 32u
-#define NSG_MOST_EXPANDED_BYTES 4096u   /* what nsg_expand fills at most: the longest row there is */
+#define NSG_MOST_EXPANDED_BYTES 4096u   /* the longest row there is, and how far nsg_expand goes into one */
 #define NSG_SENSORS 72u                 /* of the spring board, nine lines of eight squares */
 #define NSG_HEADER_NUMBERS 5u           /* what nsg_check_key gives */
 #define NSG_FAULT_NUMBERS 2u            /* what nsg_deal gives of a bad column */
 
-/* Stack that a call may need: a thread with this much to spare is enough. Measured on x86-64 Linux nsg_open_one takes 5.2 KiB and every
-   other call less than 1.6; the tests measure every call and fail above this figure. A board with less to spare measures its own build. */
+/* Stack that a call may need: a thread with this much to spare is enough. The tests measure every call on x86-64 Linux
+   and fail above this figure. A board with less to spare measures its own build. */
 #define NSG_STACK_BYTES 32768u
 
 /* SIZES OF BUFFERS, for numbers in the bounds above (a macro evaluates an argument more than once; pass plain unsigned numbers). */
@@ -105,7 +105,7 @@ extern "C" {
 #define NSG_REFUSED_MARKS 13u         /* a key marks another number of columns than half in some grid row, or has a spare bit set */
 #define NSG_REFUSED_POSITION 14u      /* the position is none of the board's */
 #define NSG_REFUSED_PLACE 15u         /* a key is of another board than the first, or not of the player whose place it stands in */
-#define NSG_REFUSED_EXPANSION 16u     /* more than 4,096 bytes are asked of a seed */
+#define NSG_REFUSED_EXPANSION 16u     /* what is asked of a seed ends past its first 4,096 bytes */
 #define NSG_REFUSED_SENSOR 17u        /* the sensor is none of the spring board's 72 */
 #define NSG_REFUSED_COLUMN_BIT 18u    /* an array's column has a bit of no player */
 #define NSG_REFUSED_COLUMN_PARITY 19u /* an array's column has the wrong parity for its grid row */
@@ -168,7 +168,8 @@ uint64_t nsg_held_seed(const uint8_t *key, uint64_t key_length, uint32_t grid_ro
 /* ---- OPENING: what one player sees. ---- */
 
 /* OPEN ONE: a player's share of one position, the value_bytes bytes that nsg_open_all writes for it. It expands
-   the seeds of the position's grid row alone.
+   the held seeds of the position's grid row alone, and these only where its cell lies: one block of 64 bytes of each,
+   or two where the cell reaches into the next.
    Refusals, in this order: those of nsg_check_key; 14 position; 9 output under value_bytes. Writes value_bytes bytes. */
 uint32_t nsg_open_one(const uint8_t *key, uint64_t key_length, uint32_t position, uint8_t *out, uint64_t out_length);
 
@@ -192,9 +193,11 @@ uint32_t nsg_join_keys(const uint8_t *keys, uint64_t keys_length, uint8_t *out, 
 
 /* ---- SEEDS: the rows that they stand for. ---- */
 
-/* EXPAND: fills the output with the first out_length bytes of the seed's key stream. Length 0 is accepted.
-   Refusals, in this order: 7 seed not of 32 bytes; 16 output above NSG_MOST_EXPANDED_BYTES. Writes out_length bytes. */
-uint32_t nsg_expand(const uint8_t *seed, uint64_t seed_length, uint8_t *out, uint64_t out_length);
+/* EXPAND: fills the output with bytes of the seed's key stream: of its first start + out_length bytes those from start
+   on. Start 0 is its first byte. Length 0 is accepted.
+   Refusals, in this order: 7 seed not of 32 bytes; 16 start + out_length above NSG_MOST_EXPANDED_BYTES, also where 64
+   bits cannot hold the sum. Writes out_length bytes. */
+uint32_t nsg_expand(const uint8_t *seed, uint64_t seed_length, uint64_t start, uint8_t *out, uint64_t out_length);
 
 #ifdef __cplusplus
 }

@@ -55,7 +55,7 @@ static inline const char *nsg_refusal_words(uint32_t number)
     case NSG_REFUSED_MARKS: return "a key marks another number of columns than half in some grid row, or has a spare bit set";
     case NSG_REFUSED_POSITION: return "the position is none of the board's";
     case NSG_REFUSED_PLACE: return "a key is of another board than the first, or not of the player whose place it stands in";
-    case NSG_REFUSED_EXPANSION: return "more than 4,096 bytes are asked of a seed";
+    case NSG_REFUSED_EXPANSION: return "what is asked of a seed ends past its first 4,096 bytes";
     case NSG_REFUSED_SENSOR: return "the sensor is none of the spring board's 72";
     case NSG_REFUSED_COLUMN_BIT: return "an array's column has a bit of no player";
     case NSG_REFUSED_COLUMN_PARITY: return "an array's column has the wrong parity for its grid row";

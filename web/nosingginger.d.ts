@@ -32,7 +32,7 @@ export const REFUSALS: readonly [
     Refusal<13, 'REFUSED_MARKS', 'a key marks another number of columns than half in some grid row, or has a spare bit set'>,
     Refusal<14, 'REFUSED_POSITION', "the position is none of the board's">,
     Refusal<15, 'REFUSED_PLACE', 'a key is of another board than the first, or not of the player whose place it stands in'>,
-    Refusal<16, 'REFUSED_EXPANSION', 'more than 4,096 bytes are asked of a seed'>,
+    Refusal<16, 'REFUSED_EXPANSION', 'what is asked of a seed ends past its first 4,096 bytes'>,
     Refusal<17, 'REFUSED_SENSOR', "the sensor is none of the spring board's 72">,
     Refusal<18, 'REFUSED_COLUMN_BIT', "an array's column has a bit of no player">,
     Refusal<19, 'REFUSED_COLUMN_PARITY', "an array's column has the wrong parity for its grid row">,
@@ -138,8 +138,9 @@ export function loadBase64(text: string): Promise<Nosingginger>;
 
 /**
  * The operations. Every call answers its result, or throws Refused with the first number that fits. A number that 32 bits cannot hold is a
- * RangeError, and what is no Uint8Array a TypeError. A lent output is written from its front on, and the answer is that part of it; without
- * one, the answer is a new array of the right length.
+ * RangeError, and what is no Uint8Array a TypeError; the start of expand alone may have 64 bits. A lent output is
+ * written from its front on, and the answer is that part of it; without one, the answer is a new array of the right
+ * length.
  */
 export class Nosingginger {
     /** load makes one. */
@@ -177,8 +178,12 @@ export class Nosingginger {
     /** HELD SEED: the part of the lent key that is the seed of a grid row and a column; empty where there is none. It is not refused. */
     heldSeed(key: Uint8Array, gridRow: number, column: number): Uint8Array;
 
-    /** EXPAND: fills the output, of at most 4,096 bytes, with the first bytes of the seed's key stream. Refusals: 7, 16. */
-    expand(seed: Uint8Array, out: Uint8Array): Uint8Array;
+    /**
+     * EXPAND: fills the output with bytes of the seed's key stream, from its byte `start` on; 0 is the first. The start
+     * is a whole number up to 2^53 - 1, or a BigInt up to 2^64 - 1; what is neither is a RangeError. Refusals: 7; 16
+     * where start and the output's length are together above 4,096.
+     */
+    expand(seed: Uint8Array, start: number | bigint, out: Uint8Array): Uint8Array;
 
     /** CHOOSE WIDTH: a grid's width for a board, for which keys are about as short as they can be. Refusals: 1, 2. */
     chooseWidth(board: { players: number, positions: number }): number;

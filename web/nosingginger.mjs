@@ -28,7 +28,7 @@ export const REFUSALS = Object.freeze([
     [13, 'REFUSED_MARKS', 'a key marks another number of columns than half in some grid row, or has a spare bit set'],
     [14, 'REFUSED_POSITION', "the position is none of the board's"],
     [15, 'REFUSED_PLACE', 'a key is of another board than the first, or not of the player whose place it stands in'],
-    [16, 'REFUSED_EXPANSION', 'more than 4,096 bytes are asked of a seed'],
+    [16, 'REFUSED_EXPANSION', 'what is asked of a seed ends past its first 4,096 bytes'],
     [17, 'REFUSED_SENSOR', "the sensor is none of the spring board's 72"],
     [18, 'REFUSED_COLUMN_BIT', "an array's column has a bit of no player"],
     [19, 'REFUSED_COLUMN_PARITY', "an array's column has the wrong parity for its grid row"],
@@ -137,12 +137,22 @@ async function bytesAt(source) {
     return answer.arrayBuffer();
 }
 
-/** A number as the module takes it. What 32 bits cannot hold is no number of any call. */
+/** A number of 32 bits as the module takes it. */
 function u32(number, what) {
     if (!Number.isInteger(number) || number < 0 || number > 0xFFFFFFFF) {
         throw new RangeError(`${what} is not a whole number from 0 to 4294967295: ${String(number)}`);
     }
     return number;
+}
+
+/** A number of 64 bits as the module takes it, which is a BigInt. */
+function u64(number, what) {
+    const isWhole = typeof number === 'bigint' || Number.isSafeInteger(number);
+    if (!isWhole || number < 0 || number > 0xFFFFFFFFFFFFFFFFn) {
+        throw new RangeError(`${what} is not a whole number from 0 to 2^53 - 1, nor a BigInt from 0 to 2^64 - 1: `
+            + String(number));
+    }
+    return BigInt(number);
 }
 
 function bytes(given, what) {
@@ -301,13 +311,19 @@ export class Nosingginger {
     }
 
     /**
-     * EXPAND: fills the output with the first bytes of the seed's key stream. Refusals: 7, 16.
+     * EXPAND: fills the output with bytes of the seed's key stream, from its byte `start` on; 0 is the first. Refusals:
+     * 7; 16 where start and the output's length are together above 4,096.
      * @param {Uint8Array} seed 32 bytes
-     * @param {Uint8Array} out lent output, at most 4,096 bytes
+     * @param {number | bigint} start
+     * @param {Uint8Array} out lent output
      * @returns {Uint8Array} the output
      */
-    expand(seed, out) {
-        this.#write([bytes(seed, 'seed')], bytes(out, 'out'), (lent, output) => this.#calls.expand(...lent, ...output));
+    expand(seed, start, out) {
+        const inputs = [bytes(seed, 'seed')];
+        // Looked at before the start, so that a call without a start is told that its output is missing.
+        bytes(out, 'out');
+        const from = u64(start, 'start');
+        this.#write(inputs, out, (lent, output) => this.#calls.expand(...lent, from, ...output));
         return out;
     }
 

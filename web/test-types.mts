@@ -20,7 +20,7 @@ export function called(nosingginger: Nosingginger, bytes: Uint8Array): RefusalNu
     const header: Header = nosingginger.checkKey(keys);
     const answers: Uint8Array[] = [nosingginger.openOne(keys, 0, bytes), nosingginger.openAll(keys), nosingginger.joinKeys(keys, bytes),
         nosingginger.joinShares({ players: 2, valueBytes: 1, shares: keys }), nosingginger.heldSeed(keys, 0, 0),
-        nosingginger.expand(bytes, bytes)];
+        nosingginger.expand(bytes, 0, bytes), nosingginger.expand(bytes, 64n, bytes)];
     try {
         nosingginger.keyLength({ ...header, positions: nosingginger.sensorPosition(answers.length) });
         return undefined;
@@ -88,7 +88,11 @@ export async function refused(nosingginger: Nosingginger, bytes: Uint8Array, boa
     // @ts-expect-error shares are lent by name
     nosingginger.joinShares(2, 1, bytes);
     // @ts-expect-error expand has no length to make an output of
-    nosingginger.expand(bytes);
+    nosingginger.expand(bytes, 0);
+    // @ts-expect-error and a start before its output
+    nosingginger.expand(bytes, bytes);
+    // @ts-expect-error which is a number or a BigInt
+    nosingginger.expand(bytes, '0', bytes);
     // @ts-expect-error a key's player is not called number
     nosingginger.checkKey(bytes).number;
     // @ts-expect-error there is no such call

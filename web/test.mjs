@@ -121,16 +121,47 @@ test('choose width, sensor position', () => {
 
 test('expand: the first key stream block of RFC 8439, A.1, and the limits', () => {
     const seed = new Uint8Array(32);
-    const block = nosingginger.expand(seed, filled(64));
+    const block = nosingginger.expand(seed, 0, filled(64));
     assert.equal(Buffer.from(block).toString('hex'), '76b8e0ada0f13d90405d6ae55386bd28bdd219b8a08ded1aa836efcc8b770dc7'
         + 'da41597c5157488d7724e03fb8d84a376a43b8f41518a11cc387b669b2ee6586');
-    assert.equal(nosingginger.expand(seed, new Uint8Array(0)).length, 0);
-    assert.deepEqual(nosingginger.expand(seed, filled(4096)).subarray(0, 64), block);
+    assert.equal(nosingginger.expand(seed, 0, new Uint8Array(0)).length, 0);
+    assert.deepEqual(nosingginger.expand(seed, 0, filled(4096)).subarray(0, 64), block);
     for (const lent of [filled(10), filled(5000)]) {
-        refused(7, () => nosingginger.expand(new Uint8Array(31), lent), lent);
+        for (const start of [0, 4097, 2n ** 64n - 1n]) {
+            refused(7, () => nosingginger.expand(new Uint8Array(31), start, lent), lent);
+        }
     }
     const lent = filled(4097);
-    refused(16, () => nosingginger.expand(seed, lent), lent);
+    refused(16, () => nosingginger.expand(seed, 0, lent), lent);
+});
+
+test('expand: the pieces of a row, from any start, are the row', () => {
+    const seed = sameEachTime(32)(32);
+    const row = nosingginger.expand(seed, 0, filled(4096));
+    for (const piece of [1, 5, 16, 63, 64, 65, 100, 256, 1000, 4095]) {
+        for (let start = 0; start < 4096; start += piece) {
+            const lent = filled(Math.min(piece, 4096 - start));
+            assert.equal(nosingginger.expand(seed, start, lent), lent);
+            assert.deepEqual(lent, row.subarray(start, start + piece));
+            assert.deepEqual(nosingginger.expand(seed, BigInt(start), filled(lent.length)), lent);
+        }
+    }
+});
+
+test('expand: start and length together are at most 4,096, whatever the start', () => {
+    const seed = new Uint8Array(32);
+    const most = 2n ** 64n - 1n;
+    for (const length of [0, 1, 16, 63, 64, 65, 4095, 4096]) {
+        const lent = filled(length);
+        const last = 4096 - length;
+        const long = BigInt(length);
+        // On the second line are those that are small, or make a small sum, where upper bits are left out.
+        for (const start of [last + 1, BigInt(last + 1), 4097, 2 ** 31, 2 ** 53 - 1, 2n ** 63n, most - long, most,
+            2 ** 32, 2 ** 32 + last, most - (length > 1 ? long - 1n : 0n), most - long / 2n]) {
+            refused(16, () => nosingginger.expand(seed, start, lent), lent);
+        }
+        assert.equal(nosingginger.expand(seed, last, lent), lent);
+    }
 });
 
 test('the printed deal', () => {
@@ -346,6 +377,17 @@ test('check key, open one, open all: refusals and lent output', () => {
     }
 });
 
+test('open one: every entry of the table, also where a cell lies in two blocks of its row', () => {
+    const boards = [[2, 300, 256, 15], [3, 40, 17, 5], [4, 60, 27, 12], [5, 50, 34, 3], [6, 30, 19, 7]];
+    for (const [players, positions, width, valueBytes] of boards) {
+        const keys = nosingginger.deal(randomDealing({ players, positions, width, valueBytes }, sameEachTime(width)));
+        for (const key of keysApart(nosingginger, keys)) {
+            const opened = Array.from({ length: positions }, (_, position) => [...nosingginger.openOne(key, position)]);
+            assert.deepEqual(opened.flat(), [...nosingginger.openAll(key)]);
+        }
+    }
+});
+
 test('join shares', () => {
     const shares = Uint8Array.of(1, 2, 4, 8, 16, 32);
     assert.deepEqual([...nosingginger.joinShares({ players: 3, valueBytes: 2, shares })], [21, 42]);
@@ -413,7 +455,14 @@ test('numbers that 32 bits cannot hold and things that are no bytes are the call
         assert.throws(() => nosingginger.checkKey(key), TypeError);
         assert.throws(() => nosingginger.openAll(key, filled(3)), TypeError);
     }
-    assert.throws(() => nosingginger.expand(new Uint8Array(32)), TypeError);
+    assert.throws(() => nosingginger.expand(new Uint8Array(32), 0), TypeError);
+    // Expand without a start, and with one that is no number of 64 bits, or a number that is not exact.
+    assert.throws(() => nosingginger.expand(new Uint8Array(32), filled(32)), TypeError);
+    for (const start of [-1, 0.5, 2 ** 53, 2 ** 64, -1n, 2n ** 64n, NaN, Infinity, '0', null, undefined]) {
+        const lent = filled(32);
+        assert.throws(() => nosingginger.expand(new Uint8Array(32), start, lent), RangeError);
+        assert.deepEqual(lent, filled(32));
+    }
 });
 
 test('lent bytes may be part of a longer array, and may be the output too', () => {
@@ -421,8 +470,8 @@ test('lent bytes may be part of a longer array, and may be the output too', () =
     const longer = Uint8Array.from([9, 9, 9, ...keys, 9]);
     assert.deepEqual(nosingginger.joinKeys(longer.subarray(3, 161)), nosingginger.joinKeys(keys));
     const seed = filled(32);
-    const expanded = nosingginger.expand(seed, filled(32));
-    assert.deepEqual(nosingginger.expand(seed, seed), expanded);
+    const expanded = nosingginger.expand(seed, 50, filled(32));
+    assert.deepEqual(nosingginger.expand(seed, 50, seed), expanded);
 });
 
 test('the largest table, and the memory grows to it and holds nothing afterwards', async () => {
@@ -470,7 +519,7 @@ const OPERATIONS = {
         const part = nosingginger.heldSeed(key, gridRow, column);
         return [[part.length === 0 ? 0 : part.byteOffset - key.byteOffset], part];
     },
-    9: (_, [seed], out) => [[], nosingginger.expand(seed, out)],
+    9: ([low, high], [seed], out) => [[], nosingginger.expand(seed, (BigInt(high) << 32n) | BigInt(low), out)],
     10: ([players, positions]) => [[nosingginger.chooseWidth({ players, positions })]],
     11: ([sensor]) => [[nosingginger.sensorPosition(sensor)]],
 };

@@ -24,7 +24,7 @@ const DOUBLE_ROUNDS: usize = 10;
 /// RFC 8439, 2.3: a block is 64 bytes.
 pub const BLOCK_BYTES: usize = 64;
 
-/// "output above 4,096 bytes": the longest row, 256 × 16.
+/// "the start plus the output length being at most 4,096": the longest row, 256 × 16.
 pub const MOST_ROW_BYTES: usize = 4_096;
 
 /// RFC 8439, 2.1, on four places of the state.
@@ -87,14 +87,19 @@ pub fn row(seed: &[u8], row_bytes: usize) -> Vec<u8> {
 }
 
 /// **Expand**: "7 seed not 32 bytes; 16 output above 4,096 bytes. It fills the output; length
-/// 0 is accepted."
-pub fn expand(seed: &[u8], output: &mut [u8]) -> Result<(), u32> {
+/// 0 is accepted." Document 02: "Expansion shall take a starting byte and fill the output from
+/// there, the start plus the output length being at most 4,096 (else 16)."
+pub fn expand(seed: &[u8], start: u64, output: &mut [u8]) -> Result<(), u32> {
     if seed.len() != SEED_BYTES {
         return Err(refusal::INPUT_LENGTH);
     }
-    if output.len() > MOST_ROW_BYTES {
+    // 128 bits hold the sum, whatever the start is.
+    let end = u128::from(start) + output.len() as u128;
+    if end > MOST_ROW_BYTES as u128 {
         return Err(refusal::EXPANSION_LONG);
     }
-    output.copy_from_slice(&row(seed, output.len()));
+    // The row as far as the output goes, and of it the bytes from the start on.
+    let row = row(seed, end as usize);
+    output.copy_from_slice(&row[start as usize..]);
     Ok(())
 }

@@ -106,7 +106,7 @@ impl Call {
             OPEN_ALL => open_all(input, output).map(none),
             JOIN_SHARES => join_shares(a, b, input, output).map(none),
             JOIN_KEYS => join_keys(input, output).map(none),
-            EXPAND => expand(input, output).map(none),
+            EXPAND => expand(input, start_of([a, b]), output).map(none),
             CHOOSE_WIDTH => choose_width(a, b).map(one),
             SENSOR_POSITION => sensor_position(a).map(one),
             other => panic!("no operation {other} on a lent output"),
@@ -151,6 +151,16 @@ impl Call {
             bytes: held_seed(key, grid_row, column).to_vec(),
         }
     }
+}
+
+/// Expand's start as numbers of 32 bits: modulo 2^32, and div 2^32.
+pub fn start_numbers(start: u64) -> [u32; 2] {
+    [start as u32, (start >> 32) as u32]
+}
+
+/// The start of these numbers.
+fn start_of([modulo, div]: [u32; 2]) -> u64 {
+    u64::from(div) << 32 | u64::from(modulo)
 }
 
 /// The numbers that come out of a refusal: 1, grid row and column where it has a place.

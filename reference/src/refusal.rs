@@ -29,7 +29,7 @@ pub const MARKS: u32 = 13;
 pub const POSITION: u32 = 14;
 /// 15: p, N, μ or w differ from the first key, or the player is not its place.
 pub const KEYS_DIFFER: u32 = 15;
-/// 16: expansion's output above 4,096 bytes.
+/// 16: expansion's start plus its output's length above 4,096.
 pub const EXPANSION_LONG: u32 = 16;
 /// 17: sensor ≥ 72.
 pub const SENSOR: u32 = 17;

@@ -2,11 +2,15 @@
 
 use reference::board::Board;
 use reference::cases::{all, BOARDS};
+use reference::chacha::block;
 use reference::data::{
-    read_file, write_file, Call, CHECK_KEY, CHOOSE_WIDTH, DEAL, DEALING_PROGRAM, EXPAND, HELD_SEED,
-    JOINING_PROGRAM, JOIN_KEYS, JOIN_SHARES, KEY_LENGTH, OPEN_ALL, OPEN_ONE, SENSOR_POSITION,
+    read_file, write_file, Call, Case, CHECK_KEY, CHOOSE_WIDTH, DEAL, DEALING_PROGRAM, EXPAND,
+    HELD_SEED, JOINING_PROGRAM, JOIN_KEYS, JOIN_SHARES, KEY_LENGTH, OPEN_ALL, OPEN_ONE,
+    SENSOR_POSITION,
 };
 use reference::deal::{faulty_columns, first_fault};
+use reference::key::check_key;
+use reference::open::open_all;
 use std::collections::{BTreeMap, BTreeSet};
 use std::fs;
 
@@ -31,7 +35,7 @@ const ANSWERS: [(u8, &[u32]); 13] = [
 ];
 
 /// The file's fingerprint, fixed so that every machine makes the same bytes.
-const FINGERPRINT: u64 = 0x05B5_98AE_B2F5_857E;
+const FINGERPRINT: u64 = 0xA698_F3F4_3C51_B37C;
 
 /// FNV-1a on 64 bits.
 fn fingerprint(bytes: &[u8]) -> u64 {
@@ -45,9 +49,8 @@ fn the_data_is_enough_and_the_same_each_time() {
     let cases = all();
     let file = write_file(&cases);
     assert_eq!(write_file(&all()), file);
-    // 400 cases or more, in 1.5 MiB or less: the figures of FORMAT.md.
-    assert_eq!(cases.len(), 2_615);
-    assert_eq!(file.len(), 1_570_060);
+    assert_eq!(cases.len(), 3_488);
+    assert_eq!(file.len(), 1_846_910);
     assert_eq!(fingerprint(&file), FINGERPRINT);
     // Every answer that an operation can give, and no other.
     let mut met: BTreeMap<u8, BTreeSet<u32>> = BTreeMap::new();
@@ -144,6 +147,173 @@ fn no_other_answer_of_deal_has_a_place() {
     }
     let both = [6, 7].map(|number| [18, 19, 20].map(|behind| (number, behind)));
     assert_eq!(behind, BTreeSet::from_iter(both.concat()));
+}
+
+/// The calls of Expand: each with its start.
+fn expansions() -> Vec<(Case, u64)> {
+    let cases = all().into_iter();
+    let cases = cases.filter(|case| case.call.operation == EXPAND);
+    cases
+        .map(|case| {
+            let [modulo, div, ..] = case.call.numbers.map(u64::from);
+            (case, modulo + (div << 32))
+        })
+        .collect()
+}
+
+/// Every answer of Expand, by the blocks of the key stream.
+#[test]
+fn expansions_are_parts_of_the_key_stream() {
+    for (case, start) in expansions() {
+        let length = case.call.lent;
+        let fits = start <= 4_096 && length <= 4_096 - start as usize;
+        let (number, part) = match <&[u8; 32]>::try_from(&case.call.inputs[0][..]) {
+            Err(_) => (7, Vec::new()),
+            Ok(_) if !fits => (16, Vec::new()),
+            Ok(seed) => {
+                let stream = (0..64).flat_map(|counter| block(seed, counter, &[0; 12]));
+                let part = stream.skip(start as usize).take(length);
+                (0, part.collect())
+            }
+        };
+        assert_eq!((case.answer.refusal, case.answer.bytes), (number, part));
+        assert_eq!(case.call.numbers[2..], [0; 3]);
+    }
+}
+
+/// In the row the lengths that fit, the largest that does and one above it, at every start; beyond
+/// the row starts up to the largest number, with sums that are small modulo 2^32 or 2^64; outputs
+/// longer than any row; and 7 before 16. Asked for are the seed's length, the start and the length.
+#[test]
+fn expansions_start_at_every_end() {
+    let mut asked: BTreeSet<(usize, u64, usize)> = BTreeSet::new();
+    for start in [
+        0, 1, 63, 64, 65, 127, 128, 192, 255, 256, 4_080, 4_095, 4_096,
+    ] {
+        let most = 4_096 - start;
+        let lengths = [0, 1, 5, 16, 63, 64, 65, 128, 192, 193, 255, 256, 257];
+        let fitting = lengths.into_iter().filter(|&length| length <= most);
+        let lengths = fitting.chain([most, most + 1]);
+        asked.extend(lengths.map(|length| (32, start as u64, length)));
+    }
+    let beyond = [4_097, 1 << 63, u64::MAX - 4_095, u64::MAX - 4_094, u64::MAX];
+    for start in beyond.into_iter().chain((1 << 32) - 1..=(1 << 32) + 1) {
+        asked.extend([0, 1, 4_096].map(|length| (32, start, length)));
+    }
+    for start in [0, 1, 64, 4_096, u64::MAX] {
+        asked.extend([4_097, 8_192].map(|length| (32, start, length)));
+    }
+    for seed in [0, 31, 33, 64] {
+        asked.extend([(seed, 4_096, 1), (seed, 4_097, 0), (seed, u64::MAX, 1)]);
+    }
+    let cases = expansions().into_iter();
+    let met = cases.map(|(case, start)| (case.call.inputs[0].len(), start, case.call.lent));
+    let missing: Vec<_> = asked.difference(&met.collect()).copied().collect();
+    assert_eq!(missing, []);
+}
+
+/// Where a cell stands in its row.
+#[derive(Clone, Copy, Debug, PartialEq, Eq, PartialOrd, Ord)]
+enum Stands {
+    /// Across two blocks, with so many bytes in the first.
+    Across(usize),
+    AtBlockStart,
+    AtBlockEnd,
+    AtRowStart,
+    AtRowEnd,
+}
+use Stands::{Across, AtBlockEnd, AtBlockStart, AtRowEnd, AtRowStart};
+
+/// By the blocks of the cell's first byte and of its last.
+fn stands(first: usize, last: usize, row_bytes: usize) -> Vec<Stands> {
+    let in_block = |byte: usize| byte % 64;
+    let places = [
+        (first / 64 != last / 64, Across(64 - in_block(first))),
+        (in_block(first) == 0 && first > 0, AtBlockStart),
+        (in_block(last) == 63, AtBlockEnd),
+        (first == 0, AtRowStart),
+        (last == row_bytes - 1, AtRowEnd),
+    ];
+    let met = places.into_iter().filter(|(is_met, _)| *is_met);
+    met.map(|(_, place)| place).collect()
+}
+
+/// What is asked of every grid row of three, for every p: cells of several widths at every end of a
+/// block and of the row, and across two blocks with every split of their bytes that can be.
+fn asked_cells(grid_row: usize) -> Vec<(usize, Stands)> {
+    let mut asked = Vec::new();
+    for width in [1, 3, 5, 7, 12, 16] {
+        asked.extend([AtBlockStart, AtBlockEnd, AtRowStart].map(|place| (width, place)));
+        // The last grid row is a cell short.
+        if grid_row < 2 {
+            asked.push((width, AtRowEnd));
+        }
+    }
+    for width in [3, 5, 7] {
+        asked.extend((1..width).map(|bytes| (width, Across(bytes))));
+    }
+    asked.extend([4, 8].map(|bytes| (12, Across(bytes))));
+    asked
+}
+
+/// Every opened square is the entry of its key's full table, and those asked for are opened.
+#[test]
+fn squares_are_opened_at_every_end() {
+    let mut met = BTreeSet::new();
+    let mut timed = false;
+    for case in all() {
+        if case.call.operation != OPEN_ONE || case.answer.refusal != 0 {
+            continue;
+        }
+        let (key, position) = (&case.call.inputs[0], case.call.numbers[0] as usize);
+        let header = check_key(key).expect("an accepted key");
+        let (cells, width) = (header.grid_width as usize, header.value_width as usize);
+        let mut table = vec![0; header.positions as usize * width];
+        assert_eq!(open_all(key, &mut table), Ok(()));
+        assert_eq!(case.answer.bytes, table[position * width..][..width]);
+        let (grid_row, first) = (position / cells, position % cells * width);
+        for place in stands(first, first + width - 1, cells * width) {
+            met.insert((header.players, grid_row, width, place));
+        }
+        let board = [header.players, header.positions, header.grid_width];
+        timed |= board == [2, 256, 256] && width == 16 && position == 255;
+    }
+    assert!(timed, "document 02's timed square");
+    for (players, grid_row) in (2..=6).flat_map(|players| [0, 1, 2].map(|row| (players, row))) {
+        for (width, place) in asked_cells(grid_row) {
+            let asked = (players, grid_row, width, place);
+            assert!(met.contains(&asked), "{asked:?}");
+        }
+    }
+}
+
+/// A number as FORMAT.md writes it.
+fn with_commas(number: usize) -> String {
+    match number {
+        0..=999 => number.to_string(),
+        _ => format!("{},{:03}", with_commas(number / 1_000), number % 1_000),
+    }
+}
+
+#[test]
+fn the_figures_of_the_format_are_those_of_the_file() {
+    let cases = all();
+    let file = write_file(&cases);
+    let head = |at: usize| u32::from_le_bytes(file[at..at + 4].try_into().unwrap()) as usize;
+    let words: Vec<&str> = include_str!("../FORMAT.md").split_whitespace().collect();
+    let text = words.join(" ");
+    for figure in [
+        format!(
+            "{} cases over {} boards",
+            with_commas(cases.len()),
+            BOARDS.len()
+        ),
+        format!("in {} bytes", with_commas(file.len())),
+        format!("(all its inputs together): {}", with_commas(head(12))),
+        format!("(lent or answered): {}", with_commas(head(16))),
+    ] {
+        assert!(text.contains(&figure), "{figure}");
+    }
 }
 
 #[test]

@@ -79,16 +79,29 @@ fn key_length_and_width() {
     assert_eq!(choose_width(2, 65_537), Err(2));
 }
 
+/// The start plus the length is at most 4,096, or it is not, also where the sum is small modulo
+/// 2^32 or 2^64.
 #[test]
 fn expansion() {
-    for lent in [0, 1, 4_096, 4_097] {
-        for seed in [0, 31, 33] {
-            let answer = on_output(lent, lent, |output| expand(&vec![0; seed], output));
-            assert_eq!(answer, Err(7));
+    let expanded = |seed: usize, start, lent| {
+        on_output(lent, lent, |output| expand(&vec![0; seed], start, output))
+    };
+    let fitting = [(0, 0), (0, 4_096), (64, 16), (4_095, 1), (4_096, 0)];
+    let at_end = [(0, 4_097), (1, 4_096), (4_095, 2), (4_096, 1), (4_097, 0)];
+    let far = [(1 << 32) - 1, 1 << 32, 1 << 63, u64::MAX - 4_095, u64::MAX];
+    let far = far.map(|start| [0, 1, 4_096, 4_097].map(|lent| (start, lent)));
+    let beyond = [&at_end[..], &far.concat()].concat();
+    for (start, lent) in fitting {
+        assert!(expanded(32, start, lent).is_ok());
+    }
+    for &(start, lent) in &beyond {
+        assert_eq!(expanded(32, start, lent), Err(16));
+    }
+    // 7 comes first, whatever start and output are.
+    for &(start, lent) in fitting.iter().chain(&beyond) {
+        for seed in [0, 31, 33, 64] {
+            assert_eq!(expanded(seed, start, lent), Err(7));
         }
-        let answer = on_output(lent, lent, |output| expand(&[0; 32], output));
-        assert_eq!(answer.is_ok(), lent <= 4_096);
-        assert_eq!(answer.err().unwrap_or(16), 16);
     }
 }
 

@@ -1,6 +1,6 @@
-//! RFC 8439's vectors, and rows that are longer than a block.
+//! RFC 8439's vectors, rows that are longer than a block, and their parts from a starting byte on.
 
-use reference::chacha::{block, expand, quarter_round, row};
+use reference::chacha::{block, expand, quarter_round};
 
 fn bytes<const LENGTH: usize>(hexadecimal: &str) -> [u8; LENGTH] {
     let digits: String = hexadecimal.split_whitespace().collect();
@@ -19,6 +19,12 @@ const A_1_1: &str = "76b8e0ada0f13d90405d6ae55386bd28bdd219b8a08ded1aa836efcc8b7
                      da41597c5157488d7724e03fb8d84a376a43b8f41518a11cc387b669b2ee6586";
 const A_1_2: &str = "9f07e7be5551387a98ba977c732d080dcb0f29a048e3656912c6533e32ee7aed
                      29b721769ce64e43d57133b074d839d531ed1f28510afb45ace10a1f4b794d6f";
+const KEY_A_1_3: &str = "0000000000000000000000000000000000000000000000000000000000000001";
+const A_1_3: &str = "3aeb5224ecf849929b9d828db1ced4dd832025e8018b8160b82284f3c949aa5a
+                     8eca00bbb4a73bdad192b5c42f73f2fd4e273644c8b36125a64addeb006c13a0";
+const KEY_A_1_4: &str = "00ff000000000000000000000000000000000000000000000000000000000000";
+const A_1_4: &str = "72d54dfbf12ec44b362692df94137f328fea8da73990265ec1bbbea1ae9af0ca
+                     13b25aa26cb4a648cb9b9d1be65b2c0924a66c54d545ec1b7374f4872e99f096";
 
 fn check_block(key: &str, counter: u32, nonce: &str, expected: &str) {
     assert_eq!(block(&bytes(key), counter, &bytes(nonce)), bytes(expected));
@@ -56,24 +62,12 @@ fn block_a_1_2() {
 
 #[test]
 fn block_a_1_3() {
-    check_block(
-        "0000000000000000000000000000000000000000000000000000000000000001",
-        1,
-        ZERO_NONCE,
-        "3aeb5224ecf849929b9d828db1ced4dd832025e8018b8160b82284f3c949aa5a
-         8eca00bbb4a73bdad192b5c42f73f2fd4e273644c8b36125a64addeb006c13a0",
-    );
+    check_block(KEY_A_1_3, 1, ZERO_NONCE, A_1_3);
 }
 
 #[test]
 fn block_a_1_4() {
-    check_block(
-        "00ff000000000000000000000000000000000000000000000000000000000000",
-        2,
-        ZERO_NONCE,
-        "72d54dfbf12ec44b362692df94137f328fea8da73990265ec1bbbea1ae9af0ca
-         13b25aa26cb4a648cb9b9d1be65b2c0924a66c54d545ec1b7374f4872e99f096",
-    );
+    check_block(KEY_A_1_4, 2, ZERO_NONCE, A_1_4);
 }
 
 #[test]
@@ -87,44 +81,99 @@ fn block_a_1_5() {
     );
 }
 
+/// So many bytes of a seed's row, from the start on.
+fn expanded(seed: &[u8; 32], start: usize, length: usize) -> Vec<u8> {
+    let mut output = vec![0xEE; length];
+    assert_eq!(expand(seed, start as u64, &mut output), Ok(()));
+    output
+}
+
 /// "the block counter starts at 0": the first block is A.1's first, the second its second.
 #[test]
 fn a_row_starts_at_block_0() {
-    let mut output = [0xEE; 128];
-    assert_eq!(expand(&[0; 32], &mut output), Ok(()));
-    assert_eq!(output[..64], bytes::<64>(A_1_1));
-    assert_eq!(output[64..], bytes::<64>(A_1_2));
+    let row = expanded(&[0; 32], 0, 128);
+    assert_eq!(row[..64], bytes::<64>(A_1_1));
+    assert_eq!(row[64..], bytes::<64>(A_1_2));
+}
+
+/// A.1's blocks with a nonce of zeros, each from its own first byte: block 1 is start 64.
+#[test]
+fn a_start_at_a_block_gives_the_block() {
+    for (key, counter, expected) in [
+        (ZERO_KEY, 0, A_1_1),
+        (ZERO_KEY, 1, A_1_2),
+        (KEY_A_1_3, 1, A_1_3),
+        (KEY_A_1_4, 2, A_1_4),
+    ] {
+        let block = expanded(&bytes(key), 64 * counter, 64);
+        assert_eq!(block, bytes::<64>(expected));
+    }
+}
+
+/// The last five bytes of A.1's first block, and the first eleven of its second.
+#[test]
+fn a_part_across_two_blocks() {
+    let part = expanded(&[0; 32], 59, 16);
+    assert_eq!(part, bytes::<16>("69b2ee6586 9f07e7be5551387a98ba97"));
 }
 
 /// The last block of the longest row, from OpenSSL's key stream.
 #[test]
 fn the_longest_row_ends_in_block_63() {
-    let mut output = [0xEE; 4096];
-    assert_eq!(expand(&[0; 32], &mut output), Ok(()));
-    assert_eq!(
-        output[4032..],
-        bytes::<64>(
+    for (key, expected) in [
+        (
+            ZERO_KEY,
             "fbf37e84b756561c67c3a5732966dc4f0701063eaa7d3a52a2b5e4a8c9acdb30
-             ee8b9f5125f76bcf7b22db897de9a8a9560c54118f31dccf49e87527d188fcb8"
-        )
-    );
-    assert_eq!(expand(&bytes::<32>(COUNTING_KEY), &mut output), Ok(()));
-    assert_eq!(
-        output[4032..],
-        bytes::<64>(
+             ee8b9f5125f76bcf7b22db897de9a8a9560c54118f31dccf49e87527d188fcb8",
+        ),
+        (
+            COUNTING_KEY,
             "d878d87994fdecd79955999551f623b05dceb1b15681ad4b82aabd4ffd8e494b
-             c4f120a12b2deb853332801da81c4ec1702bdb5d3b65412c800228d72fd04b32"
-        )
-    );
+             c4f120a12b2deb853332801da81c4ec1702bdb5d3b65412c800228d72fd04b32",
+        ),
+    ] {
+        let (key, last) = (bytes(key), bytes::<64>(expected));
+        assert_eq!(expanded(&key, 0, 4096)[4032..], last);
+        assert_eq!(expanded(&key, 4032, 64), last);
+        assert_eq!(expanded(&key, 4095, 1), last[63..]);
+    }
+}
+
+/// The longest row, block by block.
+fn longest_row(seed: &[u8; 32]) -> Vec<u8> {
+    let blocks = (0..64).flat_map(|counter| block(seed, counter, &bytes(ZERO_NONCE)));
+    blocks.collect()
 }
 
 #[test]
 fn a_shorter_row_is_the_front_of_a_longer_one() {
-    let seed: [u8; 32] = bytes(COUNTING_KEY);
-    let longest = row(&seed, 4096);
+    let seed = bytes(COUNTING_KEY);
+    let longest = longest_row(&seed);
     for length in 0..=4096 {
-        let mut output = vec![0xEE; length];
-        assert_eq!(expand(&seed, &mut output), Ok(()));
-        assert_eq!(output, longest[..length]);
+        assert_eq!(expanded(&seed, 0, length), longest[..length]);
+    }
+}
+
+/// From every start: nothing, a value, and all up to the row's end.
+#[test]
+fn every_start_gives_the_bytes_from_there_on() {
+    let seed = bytes(COUNTING_KEY);
+    let longest = longest_row(&seed);
+    for start in 0..=4096 {
+        let rest = &longest[start..];
+        for length in [0, rest.len().min(5), rest.len()] {
+            assert_eq!(expanded(&seed, start, length), rest[..length]);
+        }
+    }
+}
+
+#[test]
+fn pieces_joined_are_the_row() {
+    let seed = bytes(COUNTING_KEY);
+    let longest = longest_row(&seed);
+    for length in [1, 5, 16, 63, 64, 65, 1_000] {
+        let starts = (0..4096).step_by(length);
+        let pieces = starts.map(|start| expanded(&seed, start, length.min(4096 - start)));
+        assert_eq!(pieces.collect::<Vec<_>>().concat(), longest);
     }
 }

@@ -18,7 +18,7 @@ pub const MOST_GRID_ROWS: usize = 256;
 pub const MOST_COLUMNS: usize = 32;
 /// The bytes of a seed.
 pub const SEED_BYTES: usize = 32;
-/// The bytes of the longest row, and the most that [`expand`](crate::expand) fills.
+/// The bytes of the longest row, and how far [`expand`](crate::expand) goes into one.
 pub const MOST_EXPANDED_BYTES: usize = 4_096;
 /// The sensors of the spring board, nine lines of eight squares.
 pub const SENSORS: u32 = 72;

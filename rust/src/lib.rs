@@ -233,22 +233,27 @@ pub fn held_seed(key: &[u8], grid_row: u32, column: u32) -> Option<&[u8]> {
     }
 }
 
-/// **Expand**: fills the row with the first bytes of the seed's ChaCha20 key stream (RFC 8439, nonce zero, counter from 0).
+/// **Expand**: fills the row with bytes of the seed's ChaCha20 key stream (RFC 8439, nonce zero, counter from 0), from
+/// its byte `start` on; 0 is the first.
 ///
-/// Refuses [`Lent`](Refusal::Lent) for a seed that has not 32 bytes, [`Expansion`](Refusal::Expansion).
+/// Refuses [`Lent`](Refusal::Lent) for a seed that has not 32 bytes, [`Expansion`](Refusal::Expansion) where start and
+/// the row's length are together above [`MOST_EXPANDED_BYTES`], whatever the start: nothing overflows.
 ///
 /// ```
 /// # use nosingginger::{expand, Refusal};
-/// // The first key stream of the RFC's appendix A.1.
+/// // The first key stream of the RFC's appendix A.1, and four bytes of it where the second block of 64 begins.
 /// let mut row = [0; 4];
-/// expand(&[0; 32], &mut row)?;
+/// expand(&[0; 32], 0, &mut row)?;
 /// assert_eq!(row, [0x76, 0xB8, 0xE0, 0xAD]);
+/// expand(&[0; 32], 62, &mut row)?;
+/// assert_eq!(row, [0x65, 0x86, 0x9F, 0x07]);
+/// assert_eq!(expand(&[0; 32], 4_093, &mut row), Err(Refusal::Expansion));
 /// # Ok::<(), Refusal>(())
 /// ```
-pub fn expand(seed: &[u8], row: &mut [u8]) -> Result<(), Refusal> {
+pub fn expand(seed: &[u8], start: u64, row: &mut [u8]) -> Result<(), Refusal> {
     let (seed, length) = lent(seed);
     let (row, row_length) = lent_out(row);
-    answered(unsafe { raw::nsg_expand(seed, length, row, row_length) })
+    answered(unsafe { raw::nsg_expand(seed, length, start, row, row_length) })
 }
 
 /// **Choose width**: the grid width that makes keys short, stopped at 256.

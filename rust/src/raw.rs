@@ -53,7 +53,7 @@ extern "C" {
     pub fn nsg_held_seed(key: *const u8, key_length: u64, grid_row: u32, column: u32) -> u64;
 
     /// [`expand`](crate::expand).
-    pub fn nsg_expand(seed: *const u8, seed_length: u64, out: *mut u8, out_length: u64) -> u32;
+    pub fn nsg_expand(seed: *const u8, seed_length: u64, start: u64, out: *mut u8, out_length: u64) -> u32;
 
     /// [`choose_width`](crate::choose_width); the width goes to `width`.
     pub fn nsg_choose_width(players: u32, positions: u32, width: *mut u32) -> u32;

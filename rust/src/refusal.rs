@@ -102,7 +102,7 @@ refusals! {
     13 Marks "MARKS" "a key marks another number of columns than half in some grid row, or has a spare bit set"
     14 Position "POSITION" "the position is none of the board's"
     15 Place "PLACE" "a key is of another board than the first, or not of the player whose place it stands in"
-    16 Expansion "EXPANSION" "more than 4,096 bytes are asked of a seed"
+    16 Expansion "EXPANSION" "what is asked of a seed ends past its first 4,096 bytes"
     17 Sensor "SENSOR" "the sensor is none of the spring board's 72"
     18 ColumnBit { grid_row, column } "COLUMN_BIT" "an array's column has a bit of no player"
     19 ColumnParity { grid_row, column } "COLUMN_PARITY" "an array's column has the wrong parity for its grid row"

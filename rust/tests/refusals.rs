@@ -2,7 +2,7 @@
 
 use nosingginger::{
     check_key, choose_width, deal, expand, join_keys, join_shares, key_length, open_all, open_one, sensor_position, Board, Dealing, Header,
-    Refusal,
+    Refusal, MOST_EXPANDED_BYTES,
 };
 use reference::draw::Generator;
 
@@ -177,10 +177,41 @@ fn of_keys() {
 }
 
 #[test]
-fn of_joining_and_expanding() {
+fn of_joining() {
     let twice = [&dealt()[..KEY_BYTES], &dealt()[..KEY_BYTES]].concat();
     assert_eq!(join_keys(&twice, &mut [0; 6]), Err(Refusal::Place));
     assert_eq!(join_shares(2, 1, &[1], &mut [0]), Err(Refusal::Lent));
-    assert_eq!(expand(&[0; 31], &mut [0]), Err(Refusal::Lent));
-    assert_eq!(expand(&[0; 32], &mut [0; 4_097]), Err(Refusal::Expansion));
+}
+
+/// Starts that are refused with so many bytes: just past the last that is accepted; far past it, some of them small
+/// without their upper bits; and those with which the sum of start and length fills 64 bits or is small where it wraps.
+fn starts_past(length: usize) -> [u64; 8] {
+    let (bytes, last) = (length as u64, MOST_EXPANDED_BYTES.saturating_sub(length) as u64);
+    let wraps_to_0 = u64::MAX - bytes.saturating_sub(1);
+    [last + 1, last + 64, 1 << 32, (1 << 32) + last, 1 << 63, u64::MAX - bytes, wraps_to_0, u64::MAX]
+}
+
+#[test]
+fn of_expanding() {
+    let mut row = [0; MOST_EXPANDED_BYTES];
+    expand(&SEEDS[..32], 0, &mut row).unwrap();
+    for length in [0, 1, 16, 63, 64, 65, 4_095, 4_096] {
+        let mut part = vec![0xC3; length];
+        for start in starts_past(length) {
+            assert_eq!(expand(&SEEDS[..32], start, &mut part), Err(Refusal::Expansion), "{length} bytes from {start}");
+            assert_eq!(expand(&SEEDS[..31], start, &mut part), Err(Refusal::Lent), "{length} bytes from {start}");
+            assert_eq!(part, vec![0xC3; length]);
+        }
+        let last = MOST_EXPANDED_BYTES - length;
+        for start in [0, last / 2, last] {
+            assert_eq!(expand(&SEEDS[..33], start as u64, &mut part), Err(Refusal::Lent));
+            assert_eq!(expand(&SEEDS[..32], start as u64, &mut part), Ok(()), "{length} bytes from {start}");
+            assert_eq!(part, row[start..][..length], "{length} bytes from {start}");
+        }
+    }
+    let mut long = [0xC3; MOST_EXPANDED_BYTES + 1];
+    for start in [0].into_iter().chain(starts_past(long.len())) {
+        assert_eq!(expand(&SEEDS[..32], start, &mut long), Err(Refusal::Expansion), "from {start}");
+    }
+    assert_eq!(long, [0xC3; MOST_EXPANDED_BYTES + 1]);
 }

@@ -51,7 +51,17 @@ static void test_printed_deal(void)
     CHECK(nsg_held_seed(keys, 79, 1, 1) == 0);
 }
 
-/* RFC 8439, A.1 #1 and #2: the key stream of the seed of zeros, its first two blocks. */
+/* A seed's bytes from a start on: those of its row, which is given, and no byte more. */
+static void test_stretch(const struct lent *seed, const uint8_t *row, uint64_t start, uint64_t length)
+{
+    struct lent out = lend_filled(FILL, length);
+    CHECK(nsg_expand(seed->bytes, seed->length, start, out.bytes, out.length) == NSG_ACCEPTED);
+    CHECK(memcmp(out.bytes, row + start, (size_t)length) == 0);
+    give_back(&out);
+}
+
+/* RFC 8439, A.1 #1 and #2: the key stream of the seed of zeros, its first two blocks. Then the row's first bytes, bytes
+   from every border of two blocks and from beside it, up to the row's end too, and the row in pieces of any length. */
 static void test_expand(void)
 {
     static const uint8_t stream[128] = {
@@ -61,15 +71,25 @@ static void test_expand(void)
         0xe7, 0xbe, 0x55, 0x51, 0x38, 0x7a, 0x98, 0xba, 0x97, 0x7c, 0x73, 0x2d, 0x08, 0x0d, 0xcb, 0x0f, 0x29, 0xa0, 0x48, 0xe3, 0x65, 0x69,
         0x12, 0xc6, 0x53, 0x3e, 0x32, 0xee, 0x7a, 0xed, 0x29, 0xb7, 0x21, 0x76, 0x9c, 0xe6, 0x4e, 0x43, 0xd5, 0x71, 0x33, 0xb0, 0x74, 0xd8,
         0x39, 0xd5, 0x31, 0xed, 0x1f, 0x28, 0x51, 0x0a, 0xfb, 0x45, 0xac, 0xe1, 0x0a, 0x1f, 0x4b, 0x79, 0x4d, 0x6f};
+    static const uint64_t lengths[] = {0, 1, 2, 16, 63, 64, 65, 127, 128, 129, 255, 256, 257};
     struct lent seed = lend_filled(0, NSG_SEED_BYTES), most = lend_filled(FILL, NSG_MOST_EXPANDED_BYTES);
-    CHECK(nsg_expand(seed.bytes, 32, most.bytes, most.length) == NSG_ACCEPTED);
+    CHECK(nsg_expand(seed.bytes, seed.length, 0, most.bytes, most.length) == NSG_ACCEPTED);
     CHECK(memcmp(most.bytes, stream, 128) == 0);
-    for (uint64_t length = 0; length <= most.length; length = length < 200 ? length + 1 : length + 487) {
-        struct lent out = lend_filled(FILL, length);
-        CHECK(nsg_expand(seed.bytes, 32, out.bytes, out.length) == NSG_ACCEPTED);
-        CHECK(memcmp(out.bytes, most.bytes, (size_t)length) == 0);
-        give_back(&out);
-    }
+    for (uint64_t length = 0; length <= most.length; length = length < 200 ? length + 1 : length + 487)
+        test_stretch(&seed, most.bytes, 0, length);
+    for (uint64_t border = 0; border <= most.length; border += 64)
+        for (uint64_t start = border - (border > 0); start <= border + 1 && start <= most.length; start++) {
+            const uint64_t left = most.length - start;
+            test_stretch(&seed, most.bytes, start, left);
+            for (unsigned i = 0; i < sizeof lengths / sizeof lengths[0] && lengths[i] <= left; i++)
+                test_stretch(&seed, most.bytes, start, lengths[i]);
+        }
+    for (uint32_t longest = 5; longest < 500; longest *= 3)
+        for (uint64_t start = 0, length; start < most.length; start += length) {
+            length = 1 + next_below(longest);
+            length = length < most.length - start ? length : most.length - start;
+            test_stretch(&seed, most.bytes, start, length);
+        }
     CHECK(untouched(&seed));
     give_back(&seed);
     give_back(&most);
@@ -195,7 +215,9 @@ void test_operations(void)
 {
     static const struct board boards[] = {{2, 6, 4, 1}, {2, 1, 1, 1}, {2, 1, 256, 16}, {2, 64, 12, 1}, {3, 100, 17, 16}, {3, 130, 128, 5},
                                           {4, 72, 24, 1}, {4, 256, 1, 16}, {5, 300, 34, 3}, {6, 72, 48, 2}, {6, 4000, 255, 1},
-                                          {2, 65536, 256, 16}, {6, 65536, 256, 1}};
+                                          {2, 65536, 256, 16}, {6, 65536, 256, 1},
+                                          /* cells in two blocks of a row */
+                                          {2, 300, 256, 15}, {4, 60, 27, 12}, {6, 30, 19, 7}};
     test_printed_deal();
     test_expand();
     test_numbers();

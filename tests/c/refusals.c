@@ -383,16 +383,51 @@ static void refuse_shares(uint32_t players, uint32_t value_bytes, uint64_t lengt
     give_back(&out);
 }
 
-static void refuse_expand(uint64_t length, uint64_t room, uint32_t wanted)
+static void refuse_expand(uint64_t length, uint64_t start, uint64_t room, uint32_t wanted)
 {
     struct lent seed = lend_filled(0x33, length), out = lend_filled(FILL, room);
-    expect(EXPAND, nsg_expand(seed.bytes, seed.length, out.bytes, out.length), wanted);
+    expect(EXPAND, nsg_expand(seed.bytes, seed.length, start, out.bytes, out.length), wanted);
     CHECK(untouched(&seed) && untouched(&out));
     give_back(&seed);
     give_back(&out);
 }
 
-static void test_shares_and_seeds_refused(void)
+/* One start that is too far for so many bytes of a row: 16 with a seed, and 7 before it without. */
+static void refuse_start(uint64_t start, uint64_t room)
+{
+    refuse_expand(32, start, room, NSG_REFUSED_EXPANSION);
+    refuse_expand(31, start, room, NSG_REFUSED_LENT);
+}
+
+static void test_seeds_refused(void)
+{
+    static const uint64_t rooms[] = {0, 1, 2, 16, 63, 64, 65, 2048, 4095, 4096, 4097, 65536};
+    refuse_expand(0, 0, 4097, NSG_REFUSED_LENT);
+    refuse_expand(31, 0, 64, NSG_REFUSED_LENT);
+    refuse_expand(33, 0, 0, NSG_REFUSED_LENT);
+    refuse_expand(33, 4096, 0, NSG_REFUSED_LENT);
+    refuse_start(0, 4097);
+    refuse_start(0, 65536);
+    for (unsigned i = 0; i < sizeof rooms / sizeof rooms[0]; i++) {
+        const uint64_t room = rooms[i], last = room < 4096 ? 4096 - room : 0;
+        refuse_start(last + 1, room);
+        refuse_start(last + 64, room);
+        refuse_start(4097, room);
+        /* small without the upper 32 bits, or without the highest */
+        refuse_start((uint64_t)1 << 32, room);
+        refuse_start(((uint64_t)1 << 32) + last, room);
+        refuse_start((uint64_t)1 << 63, room);
+        /* start + room is 2^64 - 1, then 2^64 and more, which wraps round */
+        refuse_start(UINT64_MAX - room, room);
+        refuse_start(UINT64_MAX, room);
+        if (room > 0) {
+            refuse_start(UINT64_MAX - room + 1, room);
+            refuse_start(UINT64_MAX - room / 2, room);
+        }
+    }
+}
+
+static void test_shares_refused(void)
 {
     refuse_shares(1, 0, 3, 0, NSG_REFUSED_PLAYERS);
     refuse_shares(7, 2, 14, 2, NSG_REFUSED_PLAYERS);
@@ -403,11 +438,6 @@ static void test_shares_and_seeds_refused(void)
     refuse_shares(3, 2, 0, 2, NSG_REFUSED_LENT);
     refuse_shares(3, 2, 6, 1, NSG_REFUSED_ROOM);
     refuse_shares(6, 16, 96, 0, NSG_REFUSED_ROOM);
-    refuse_expand(0, 4097, NSG_REFUSED_LENT);
-    refuse_expand(31, 64, NSG_REFUSED_LENT);
-    refuse_expand(33, 0, NSG_REFUSED_LENT);
-    refuse_expand(32, 4097, NSG_REFUSED_EXPANSION);
-    refuse_expand(32, 65536, NSG_REFUSED_EXPANSION);
 }
 
 void test_refusals(void)
@@ -415,7 +445,8 @@ void test_refusals(void)
     test_numbers_refused();
     test_deal_refused();
     test_keys_refused();
-    test_shares_and_seeds_refused();
+    test_shares_refused();
+    test_seeds_refused();
     for (int f = 0; f < FUNCTIONS; f++) {
         printf("refusals: %s", names[f]);
         for (const uint8_t *number = given[f]; *number != 0; number++) {

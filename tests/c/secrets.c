@@ -82,17 +82,20 @@ static uint32_t next_position(struct board board, uint32_t position)
 static void test_expand(void)
 {
     static const uint64_t lengths[] = {0, 1, 63, 64, 65, 256, 257, 320, 321, 384, 385, 640, 4095, 4096};
+    static const uint64_t starts[] = {0, 1, 60, 63, 64, 65, 128, 255, 256, 3456, 4032, 4095, 4096};
     struct lent seed = lend_filled(0x81, NSG_SEED_BYTES), wanted = lend_filled(FILL, NSG_MOST_EXPANDED_BYTES);
-    CHECK(nsg_expand(seed.bytes, seed.length, wanted.bytes, wanted.length) == NSG_ACCEPTED);
+    CHECK(nsg_expand(seed.bytes, seed.length, 0, wanted.bytes, wanted.length) == NSG_ACCEPTED);
     hide(seed.bytes, seed.length);
-    for (unsigned i = 0; i < sizeof lengths / sizeof lengths[0]; i++) {
-        struct lent out = lend_filled(FILL, lengths[i]);
-        CHECK(quietly(nsg_expand(seed.bytes, seed.length, out.bytes, out.length), NSG_ACCEPTED));
-        CHECK(secret(out.bytes, out.length, undefined, wanted.bytes));
-        give_back(&out);
-    }
-    CHECK(quietly(nsg_expand(seed.bytes, seed.length - 1, wanted.bytes, wanted.length), NSG_REFUSED_LENT));
-    CHECK(quietly(nsg_expand(seed.bytes, seed.length, wanted.bytes, NSG_MOST_EXPANDED_BYTES + 1), NSG_REFUSED_EXPANSION));
+    for (unsigned i = 0; i < sizeof starts / sizeof starts[0]; i++)
+        for (unsigned j = 0; j < sizeof lengths / sizeof lengths[0] && lengths[j] <= wanted.length - starts[i]; j++) {
+            struct lent out = lend_filled(FILL, lengths[j]);
+            CHECK(quietly(nsg_expand(seed.bytes, seed.length, starts[i], out.bytes, out.length), NSG_ACCEPTED));
+            CHECK(secret(out.bytes, out.length, undefined, wanted.bytes + starts[i]));
+            give_back(&out);
+        }
+    CHECK(quietly(nsg_expand(seed.bytes, seed.length - 1, 0, wanted.bytes, wanted.length), NSG_REFUSED_LENT));
+    CHECK(quietly(nsg_expand(seed.bytes, seed.length, 1, wanted.bytes, wanted.length), NSG_REFUSED_EXPANSION));
+    CHECK(quietly(nsg_expand(seed.bytes, seed.length, UINT64_MAX, wanted.bytes, wanted.length), NSG_REFUSED_EXPANSION));
     give_back(&seed);
     give_back(&wanted);
 }

@@ -12,9 +12,9 @@ static uint8_t stack[STACK];
 static ucontext_t outside, inside;
 
 /* What the calls work on: the largest rows and the most columns that there are, and a joined table that is not too long. The spoiled draw has
-   its last column twice. */
-static struct draw draw, spoiled;
-static struct lent keys, table, fault;
+   its last column twice; the narrow one has cells of 15 bytes, and the fifth lies across two blocks of its row. */
+static struct draw draw, spoiled, narrow;
+static struct lent keys, across, table, fault;
 static uint32_t length, number, header[NSG_HEADER_NUMBERS], answer;
 
 static void call_nothing(void) { answer = NSG_ACCEPTED; }
@@ -23,11 +23,13 @@ static void call_deal(void) { answer = deal(&draw, &keys, &fault); }
 static void call_bad_deal(void) { answer = deal(&spoiled, &keys, &fault) != NSG_REFUSED_COLUMN_TWICE; }
 static void call_check_key(void) { answer = nsg_check_key(keys.bytes, length, header); }
 static void call_open_one(void) { answer = nsg_open_one(keys.bytes, length, 1023, table.bytes, table.length); }
+static void call_open_across(void) { answer = nsg_open_one(across.bytes, across.length, 4, table.bytes, table.length); }
 static void call_open_all(void) { answer = nsg_open_all(keys.bytes, length, table.bytes, table.length); }
 static void call_join_shares(void) { answer = nsg_join_shares(6, 16, keys.bytes, 6 * 16, table.bytes, table.length); }
 static void call_join_keys(void) { answer = nsg_join_keys(keys.bytes, keys.length, table.bytes, table.length); }
 static void call_held_seed(void) { answer = nsg_held_seed(keys.bytes, length, 3, 31) + nsg_held_seed(keys.bytes, length, 3, 30) == 0; }
-static void call_expand(void) { answer = nsg_expand(draw.seeds.bytes, 32, table.bytes, NSG_MOST_EXPANDED_BYTES); }
+static void call_expand(void) { answer = nsg_expand(draw.seeds.bytes, 32, 0, table.bytes, NSG_MOST_EXPANDED_BYTES); }
+static void call_expand_later(void) { answer = nsg_expand(draw.seeds.bytes, 32, 63, table.bytes, 4096 - 63); }
 static void call_choose_width(void) { answer = nsg_choose_width(6, 65536, &number); }
 static void call_sensor_position(void) { answer = nsg_sensor_position(71, &number); }
 
@@ -35,9 +37,11 @@ static const struct {
     const char *name;
     void (*call)(void);
 } calls[] = {{"nsg_key_length", call_key_length}, {"nsg_deal", call_deal}, {"nsg_deal, refused for a column", call_bad_deal},
-             {"nsg_check_key", call_check_key}, {"nsg_open_one", call_open_one}, {"nsg_open_all", call_open_all},
+             {"nsg_check_key", call_check_key}, {"nsg_open_one", call_open_one},
+             {"nsg_open_one, in two blocks", call_open_across}, {"nsg_open_all", call_open_all},
              {"nsg_join_shares", call_join_shares}, {"nsg_join_keys", call_join_keys}, {"nsg_held_seed", call_held_seed},
-             {"nsg_expand", call_expand}, {"nsg_choose_width", call_choose_width}, {"nsg_sensor_position", call_sensor_position}};
+             {"nsg_expand", call_expand}, {"nsg_expand, within a block", call_expand_later},
+             {"nsg_choose_width", call_choose_width}, {"nsg_sensor_position", call_sensor_position}};
 
 /* The bytes of the painted stack that a call changed, from the deepest of them up. The stack grows down. */
 static unsigned used_by(void (*call)(void))
@@ -62,8 +66,11 @@ int main(void)
     draw = draw_dealing((struct board){6, 1024, 256, 16}, 1000);
     spoiled = draw_dealing(draw.board, 1000);
     spoiled.arrays.bytes[spoiled.arrays.length - 1] = spoiled.arrays.bytes[spoiled.arrays.length - 2];
+    narrow = draw_dealing((struct board){6, 1024, 256, 15}, 1000);
     length = key_length(draw.board);
     keys = dealt_keys(&draw);
+    across = dealt_keys(&narrow);
+    across.length = key_length(narrow.board);   /* player 0's key */
     table = lend_filled(0, 1024 * 16);
     fault = lend_fault();
     for (unsigned i = 0; i < sizeof calls / sizeof calls[0]; i++) {
@@ -76,7 +83,9 @@ int main(void)
     printf("stack: at most %u bytes, %u allowed; %lu checks, %lu failed\n", most, NSG_STACK_BYTES, checks_made, checks_failed);
     give_back(&fault);
     give_back(&table);
+    give_back(&across);
     give_back(&keys);
+    give_back_draw(&narrow);
     give_back_draw(&spoiled);
     give_back_draw(&draw);
     return checks_failed != 0;

@@ -157,7 +157,7 @@ static uint32_t call(const struct one_case *c, const uint8_t *input, uint8_t *ou
     case JOIN_SHARES: return nsg_join_shares(in[0], in[1], input, l[0], out, c->lent);
     case JOIN_KEYS: return nsg_join_keys(input, l[0], out, c->lent);
     case HELD_SEED: numbers[0] = (uint32_t)nsg_held_seed(input, l[0], in[0], in[1]); return 0;
-    case EXPAND: return nsg_expand(input, l[0], out, c->lent);
+    case EXPAND: return nsg_expand(input, l[0], (uint64_t)in[1] << 32 | in[0], out, c->lent);
     case CHOOSE_WIDTH: return nsg_choose_width(in[0], in[1], numbers);
     case SENSOR_POSITION: return nsg_sensor_position(in[0], numbers);
     }
@@ -271,7 +271,7 @@ static void run_cases(void)
 /* ---- random calls */
 
 enum { PLAYERS = NSG_MOST_PLAYERS, POSITIONS = NSG_MOST_POSITIONS, WIDTH = NSG_MOST_WIDTH, VALUE_BYTES = NSG_MOST_VALUE_BYTES };
-enum { SEED = NSG_SEED_BYTES, ROW_BYTES = NSG_MOST_EXPANDED_BYTES, CALLS_IN_A_LINE = 5000 };
+enum { SEED = NSG_SEED_BYTES, ROW_BYTES = NSG_MOST_EXPANDED_BYTES, BLOCK = 64, CALLS_IN_A_LINE = 5000 };
 
 static uint64_t state;
 static uint32_t calls;
@@ -434,6 +434,27 @@ static uint32_t square_joins(const struct dealing *d, uint32_t position)
     return good;
 }
 
+/* Of which values a cell in two blocks of its row was opened: a bit for each number of bytes. It must be all of those
+   that do not divide a block. */
+static uint32_t in_two_blocks;
+
+enum { NOT_DIVIDING = 0xFEE8 };
+
+/* Opens a square whose cell lies in two blocks of its row: 1 where that joins, or where the board has none. */
+static uint32_t square_in_two_blocks_joins(const struct dealing *d)
+{
+    uint32_t w = d->value_bytes, position = below(d->positions), left = BLOCK % w == 0 ? 0 : d->positions;
+    for (; left > 0; left--) {
+        uint32_t first = position % d->width * w;
+        if (first / BLOCK != (first + w - 1) / BLOCK) {
+            in_two_blocks |= 1u << w;
+            return square_joins(d, position);
+        }
+        position = position + 1 < d->positions ? position + 1 : 0;
+    }
+    return 1;
+}
+
 /* Joins all keys into the rest of the room, where the table fits there: 1 where it is the value on the point and zeros elsewhere. */
 static uint32_t keys_join(const struct dealing *d, uint32_t limit)
 {
@@ -512,6 +533,7 @@ static void random_dealing(uint32_t limit)
     record_bytes(room, d.rest);
     wrong += !square_joins(&d, d.point);
     wrong += !square_joins(&d, below(d.positions));
+    wrong += !square_in_two_blocks_joins(&d);
     wrong += !keys_join(&d, limit);
     key = room + d.keys + below(d.players) * d.key_bytes;
     try_key(&d, key, d.key_bytes, limit);
@@ -531,14 +553,49 @@ static void random_dealing(uint32_t limit)
     }
 }
 
+/* Where so many bytes of a row start: 0, anywhere in the longest row, at or beside the border of two blocks, so that
+   they end with the longest row or beside its end, anywhere at all, or so that they end at 2^64 or beside it. */
+static uint64_t draw_start(uint32_t length)
+{
+    uint32_t last = length < ROW_BYTES ? ROW_BYTES - length : 0;
+    uint64_t beside = (uint64_t)below(3) - 1;   /* -1, 0 or 1, where sums wrap round */
+    switch (below(8)) {
+    case 0: return 0;
+    case 1: case 2: return below(last + 1);
+    case 3: case 4: return BLOCK * below(last / BLOCK + 1) + beside;
+    case 5: return last + beside;
+    case 6: return next() >> below(64);
+    }
+    return beside - length;
+}
+
+/* Bytes of a row from a start on, mostly of a seed of the right length. What is written is a part of the whole row. */
+static void try_expand(void)
+{
+    uint32_t length = below(4) == 0 ? below(ROW_BYTES + 3) : below(200);
+    uint32_t seed_bytes = SEED - (below(16) == 0) + (below(16) == 0), answer = NSG_ACCEPTED;
+    uint64_t start = draw_start(length);
+    uint8_t *out = room + SEED + 1, *row = out + ROW_BYTES + 3;
+    draw(room, SEED + 1);
+    fill(out, ROW_BYTES + 3, 0xAA);
+    if (length > ROW_BYTES || start > ROW_BYTES - length)
+        answer = NSG_REFUSED_EXPANSION;
+    if (seed_bytes != SEED)
+        answer = NSG_REFUSED_LENT;
+    wrong += called(nsg_expand(room, seed_bytes, start, out, length)) != answer;
+    record_bytes(out, ROW_BYTES + 3);
+    if (answer == NSG_ACCEPTED) {
+        wrong += nsg_expand(room, SEED, 0, row, ROW_BYTES) != NSG_ACCEPTED;
+        for (uint32_t i = 0; i < length; i++)
+            wrong += out[i] != row[start + i];
+    }
+}
+
 /* The calls that need no dealing, with numbers and lengths in and out of their ranges. */
 static void random_small_calls(void)
 {
-    uint32_t number = UNTOUCHED, length = below(4) == 0 ? below(ROW_BYTES + 3) : below(200);
-    draw(room, SEED + 1);
-    fill(room + SEED + 1, ROW_BYTES + 3, 0xAA);
-    called(nsg_expand(room, SEED - (below(16) == 0) + (below(16) == 0), room + SEED + 1, length));
-    record_bytes(room + SEED + 1, length);
+    uint32_t number = UNTOUCHED, length;
+    try_expand();
     called(nsg_key_length(below(8), below(2) == 0 ? below(POSITIONS + 2) : below(300), below(WIDTH + 2), below(VALUE_BYTES + 2), &number));
     record_number(number);
     called(nsg_choose_width(below(8), below(2) == 0 ? below(POSITIONS + 2) : below(300), &number));
@@ -561,14 +618,15 @@ static void run_random(uint32_t rounds, uint32_t limit)
         random_dealing(limit);
         random_small_calls();
     }
-    wrong += bad_ends != ALL_ENDS;
+    wrong += (bad_ends != ALL_ENDS) + (in_two_blocks != NOT_DIVIDING);
     decimal(calls);
     text(" random calls, those in at most ");
     decimal(limit);
     text(" bytes done, with ");
     decimal(bad_columns);
     text(" bad columns");
-    text(bad_ends == ALL_ENDS ? ", each number at each end of an array: " : ", NOT at all ends of an array: ");
+    text(bad_ends == ALL_ENDS ? ", each number at each end of an array" : ", NOT at all ends of an array");
+    text(in_two_blocks == NOT_DIVIDING ? ", and cells in two blocks: " : ", NOT of all values cells in two blocks: ");
     hexadecimal(digest);
     text("\n");
 }

@@ -2,15 +2,15 @@
 -- Assumes nothing.
 use mathlib.Core.Path.{_≡_, refl, sym, _∙_}
 use mathlib.Core.List.{List}
-use Prim.Native.Nat.{ℕ, zero, suc, _≤_, _<_}
+use Prim.Native.Nat.{ℕ, zero, suc, _+_, _≤_, _<_}
 use native.Mathlib.Omega.{arith}
 use borrow.Author.Tests.{eq-eqb, ne-eqb, le-leb, lt-leb, le-ltb, lt-ltb}
 use lib.ListN.{length}
-use Rattle.chacha20.specs.Expand.{expand}
-use Rattle.chacha20.proofs.Stream.{word-expand}
+use Rattle.chacha20.specs.From.{expand-from}
+use Rattle.chacha20.proofs.Stream.{word-from}
 use Rattle.grid.specs.Width.{width, sensor-position}
 use Rattle.grid.proofs.Refusing.{In, Out}
-use Rattle.call_answers.specs.Answers.{Put-says, says, Expand-says, width-refusal, Width-says, Sensor-says}
+use Rattle.call_answers.specs.Answers.{Put-says, says, expand-refusal, Expand-says, width-refusal, Width-says, Sensor-says}
 use Rattle.writer.specs.Written.{in-front}
 use Rattle.writer.proofs.Laws.{in-front-whole}
 use Rattle.call_answers.specs.declared.Answer.{Answer}
@@ -45,21 +45,21 @@ module _ (n v : ℕ) (r : Answer) where
 
 -- EXPAND
 
-module _ (seed o : List ℕ) where
-  pub expand-seed-refused : (length seed ≡ 32 → ⊥) → Expand-says seed 7 o o
-  unfolding Expand-says
+module _ (seed : List ℕ) (s : ℕ) (o : List ℕ) where
+  pub expand-seed-refused : (length seed ≡ 32 → ⊥) → Expand-says seed s 7 o o
+  unfolding Expand-says expand-refusal
   expand-seed-refused h = rw (ne-eqb (length seed) 32 h) (put-refused 7 _ 7 o o (λ e. omega arith) refl refl)
 
-  pub expand-room-refused : length seed ≡ 32 → 4096 < length o → Expand-says seed 16 o o
-  unfolding Expand-says
+  pub expand-room-refused : length seed ≡ 32 → 4096 < s + length o → Expand-says seed s 16 o o
+  unfolding Expand-says expand-refusal
   expand-room-refused h k =
-      rw (eq-eqb (length seed) 32 h, lt-ltb 4096 (length o) k) (put-refused 16 _ 16 o o (λ e. omega arith) refl refl)
+      rw (eq-eqb (length seed) 32 h, lt-ltb 4096 (s + length o) k) (put-refused 16 _ 16 o o (λ e. omega arith) refl refl)
 
-  pub expanded : (z : List ℕ) → length seed ≡ 32 → length o ≤ 4096 → z ≡ expand (length o) seed → Expand-says seed 0 o z
-  unfolding Expand-says
-  expanded z h k e =
-      rw (eq-eqb (length seed) 32 h, le-ltb 4096 (length o) k)
-      (put-done 0 _ 0 o z refl refl (e ∙ sym (in-front-whole (expand (length o) seed) o (word-expand (length o) seed .long))))
+  pub expanded : (z : List ℕ) {from : ℕ} → z ≡ expand-from from (length o) seed → length seed ≡ 32 → s + length o ≤ 4096 → from ≡ s → Expand-says seed s 0 o z
+  unfolding Expand-says expand-refusal
+  expanded z e h k start =
+      rw (eq-eqb (length seed) 32 h, le-ltb 4096 (s + length o) k)
+      (put-done 0 _ 0 o z refl refl (rw start at e ∙ sym (in-front-whole (expand-from s (length o) seed) o (word-from s (length o) seed .long))))
 
 -- CHOOSE WIDTH AND SENSOR POSITION
 

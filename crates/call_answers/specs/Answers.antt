@@ -1,16 +1,16 @@
--- What the operations answer and leave behind: document 03's Entry, word for word but for a name, `width-refusal`, and
--- for Deal's place, which is document 02's, (i). Each is an equation that fixes the number, the value and every lent
--- byte, refused calls too. Join keys has its own file; Check key and Held seed answer as the crates key_header and keys
--- say. Assumes nothing: these are definitions.
+-- What the operations answer and leave behind: document 03's Entry, word for word but for two names, `width-refusal`
+-- and `expand-refusal`, and for what document 02 asks: Deal's place, (i), and Expand's start, (ii). Each is an equation
+-- that fixes the number, the value and every lent byte, refused calls too. Join keys has its own file; Check key and
+-- Held seed answer as the crates key_header and keys say. Assumes nothing: these are definitions.
 use mathlib.Core.Path.{_≡_}
 use mathlib.Core.Bool.{not, cond}
 use mathlib.Core.List.{List, [], _∷_}
-use Prim.Native.Nat.{ℕ, zero, suc, _*_}
+use Prim.Native.Nat.{ℕ, zero, suc, _+_, _*_}
 use lib.Dec.{ltb, leb, eqb}
 use lib.ListN.{length, take, drop}
 use Rattle.xor.specs.Xor.{xors, zeros}
 use Rattle.writer.specs.Written.{in-front}
-use Rattle.chacha20.specs.Expand.{expand}
+use Rattle.chacha20.specs.From.{expand-from}
 use Rattle.seed_rows.specs.Rows.{rule}
 use Rattle.grid.specs.Grid.{board, board-refusal, players-fit, positions-fit, value-fits}
 use Rattle.grid.specs.Width.{width, sensor-position}
@@ -88,10 +88,13 @@ shares-refusal p w l o =
 unfoldable pub Join-says : (p w : ℕ) → (shares : List ℕ) → (r : ℕ) → (out out-now : List ℕ) → Type 0
 Join-says p w bs r o z = Put-says (shares-refusal p w (length bs) (length o)) (joined-shares p w bs) r o z
 
--- EXPAND: 7, 16; "it fills the output; length 0 is accepted"
-unfoldable pub Expand-says : (seed : List ℕ) → (r : ℕ) → (out out-now : List ℕ) → Type 0
-Expand-says bs r o z =
-    Put-says (cond (not (eqb (length bs) 32)) 7 (cond (ltb 4096 (length o)) 16 0)) (expand (length o) bs) r o z
+-- EXPAND: 7, 16; "it fills the output; length 0 is accepted", from a starting byte, "the start plus the output length
+-- being at most 4,096 (else 16)"
+unfoldable pub expand-refusal : (long s room : ℕ) → ℕ
+expand-refusal l s o = cond (not (eqb l 32)) 7 (cond (ltb 4096 (s + o)) 16 0)
+
+unfoldable pub Expand-says : (seed : List ℕ) → (start : ℕ) → (r : ℕ) → (out out-now : List ℕ) → Type 0
+Expand-says bs s r o z = Put-says (expand-refusal (length bs) s (length o)) (expand-from s (length o) bs) r o z
 
 -- CHOOSE WIDTH: 1, 2
 unfoldable pub width-refusal : (p n : ℕ) → ℕ

@@ -1,10 +1,13 @@
--- Document 03's own text of the refusals of Join shares and Choose width, which here share the ranges of a board. Assumes nothing: these are
--- definitions and one statement.
+-- Document 03's own text of the refusals of Join shares and Choose width, which here share the ranges of a board, and of
+-- Expand, which has no start there. Assumes nothing: these are definitions and one statement.
 use mathlib.Core.Path.{_≡_}
 use mathlib.Core.Bool.{_&&_, not, cond}
+use mathlib.Core.List.{List}
 use Prim.Native.Nat.{ℕ, _*_}
 use lib.Dec.{ltb, leb, eqb}
-use Rattle.call_answers.specs.Answers.{shares-refusal, width-refusal}
+use lib.ListN.{length}
+use Rattle.chacha20.specs.Expand.{expand}
+use Rattle.call_answers.specs.Answers.{Put-says, shares-refusal, width-refusal}
 
 unfoldable pub shares-written : (p w long room : ℕ) → ℕ
 shares-written p w l o =
@@ -13,6 +16,10 @@ shares-written p w l o =
 
 unfoldable pub width-written : (p n : ℕ) → ℕ
 width-written p n = cond (not (leb 2 p && leb p 6)) 1 (cond (not (leb 1 n && leb n 65536)) 2 0)
+
+unfoldable pub Expand-written : (seed : List ℕ) → (r : ℕ) → (out out-now : List ℕ) → Type 0
+Expand-written bs r o z =
+    Put-says (cond (not (eqb (length bs) 32)) 7 (cond (ltb 4096 (length o)) 16 0)) (expand (length o) bs) r o z
 
 -- THE REFUSALS ARE THESE, for every number
 pub record Same-call-refusals : Type 0 where

@@ -1,11 +1,11 @@
--- A list that is written part by part from the front, the sums of two states, and how many bytes words have. Assumes nothing.
-use mathlib.Core.Path.{_≡_, refl, sym, ap}
+-- A list that is written part by part from the front, the end of a front, the sums of two states, and how many bytes words have. Assumes nothing.
+use mathlib.Core.Path.{_≡_, refl, sym, ap, _∙_}
 use mathlib.Core.List.{List, [], _∷_, _++_, append-assoc}
 use Prim.Native.Nat.{ℕ, zero, suc, _+_, _*_, _-_, _<_, _≤_}
 use native.Mathlib.Omega.{arith}
-use native.Mathlib.Nat.{not-suc-le-zero}
-use lib.ListN.{length, getD, drop}
-use lib.Seq.{take-at, drop-at, drop-drop}
+use native.Mathlib.Nat.{not-suc-le-zero, zero-add, suc-add}
+use lib.ListN.{length, getD, take, drop}
+use lib.Seq.{take-at, take-nil, drop-at, drop-drop}
 use borrow.Rule.Slice.PartMut.{putMid}
 use Rattle.chacha20.specs.Expand.{add, sums, low-bytes}
 
@@ -17,6 +17,12 @@ part-written new old out part from to long h so-far =
     rw so-far
     (rw (take-at new (drop from old) from long, drop-at new (drop from old) from long, drop-drop (to - from) from old, whole)
     (sym (append-assoc new part (drop to old))))
+
+-- the end of a front
+pub front-end : (s n : ℕ) (xs : List ℕ) → drop s (take (s + n) xs) ≡ take n (drop s xs)
+front-end zero n xs = ap (λ (k : ℕ). take k xs) (zero-add n)
+front-end (suc s) n [] = ap (λ (l : List ℕ). drop (suc s) l) (take-nil {A = ℕ} (suc s + n)) ∙ sym (take-nil n)
+front-end (suc s) n (x ∷ xs) = ap (λ (k : ℕ). drop (suc s) (take k (x ∷ xs))) (suc-add s n) ∙ front-end s n xs
 
 -- SUMS of two states, word by word
 

@@ -6,14 +6,15 @@ use mathlib.Core.Bool.{true}
 use mathlib.Core.List.{List, [], _∷_, _++_, append-assoc}
 use Prim.Native.Nat.{ℕ, zero, suc, _+_, _*_, _-_, _/_, _%_, _<_, _≤_}
 use native.Mathlib.Omega.{arith}
-use native.Mathlib.Nat.{add-zero}
+use native.Mathlib.Nat.{add-zero, zero-add}
 use lib.ListN.{length, take, drop, length-set}
 use lib.Seq.{take-take, take-append-add, take-append-le, drop-at, drop-drop}
 use Rattle.xor.specs.Xor.{zeros, bytes-good}
-use Rattle.xor.proofs.Laws.{Word, word-append, word-take, good-cons}
+use Rattle.xor.proofs.Laws.{Word, word-append, word-take, word-drop, good-cons}
 use Rattle.chacha20.specs.Expand.{full, add, mixed, quarter, double-round, rounds, key-words, word-at, at, seed-state, sums, low-bytes, block, blocks, expand}
+use Rattle.chacha20.specs.From.{expand-from}
 use Rattle.chacha20.specs.Rfc8439.{constant, initial-state, chacha20-block, stream-blocks, key-stream, Rows-by-rfc8439}
-use Rattle.chacha20.proofs.Parts.{length-sums, length-low-bytes}
+use Rattle.chacha20.proofs.Parts.{length-sums, length-low-bytes, front-end}
 
 -- DOCUMENT 03'S definitions are the instance
 
@@ -153,13 +154,39 @@ part-of-key-stream s e c key nonce h =
     subst (λ (n : ℕ). drop n (key-stream e c key nonce) ≡ drop (s % 64) (key-stream (e - 64 * first) (c + first) key nonce)) start
     (sym (drop-drop (s % 64) (64 * first) (key-stream e c key nonce)) ∙ ap (λ (l : List ℕ). drop (s % 64) l) same)
 
--- the same of a row: document 03's `expand`
+-- a shorter row begins a longer one
 pub take-expand : (m n : ℕ) (seed : List ℕ) → m ≤ n → take m (expand n seed) ≡ expand m seed
 take-expand m n seed h = rw (expand-is n seed, expand-is m seed) (take-key-stream m n 0 seed (zeros 12) h)
 
-pub part-of-expand : (s e : ℕ) (seed : List ℕ) → s ≤ e → drop s (expand e seed) ≡ drop (s % 64) (key-stream (e - 64 * (s / 64)) (s / 64) seed (zeros 12))
-part-of-expand s e seed h =
+-- BYTES FROM A STARTING BYTE ON, of a row
+
+-- they are the same bytes of every row that is long enough
+pub from-within : (s n l : ℕ) (seed : List ℕ) → s + n ≤ l → expand-from s n seed ≡ take n (drop s (expand l seed))
+unfolding expand-from
+from-within s n l seed h = ap (λ (xs : List ℕ). drop s xs) (sym (take-expand (s + n) l seed h)) ∙ front-end s n (expand l seed)
+
+-- from byte 0 on they are the row
+pub from-zero : (n : ℕ) (seed : List ℕ) → expand-from 0 n seed ≡ expand n seed
+unfolding expand-from
+from-zero n seed = ap (λ (k : ℕ). expand k seed) (zero-add n)
+
+-- a part of them begins at a later byte
+pub part-of-from : (s n d m : ℕ) (seed : List ℕ) → d + m ≤ n → take m (drop d (expand-from s n seed)) ≡ expand-from (s + d) m seed
+unfolding expand-from
+part-of-from s n d m seed h =
+    ap (λ (xs : List ℕ). take m xs) (drop-drop d s (expand (s + n) seed)) ∙ sym (from-within (s + d) m (s + n) seed (omega arith))
+
+pub word-from : (s n : ℕ) (seed : List ℕ) → Word n (expand-from s n seed)
+unfolding expand-from
+word-from s n seed =
+    let left : s + n - s ≡ n = omega arith in
+    subst (λ (k : ℕ). Word k (drop s (expand (s + n) seed))) left (word-drop s (expand (s + n) seed) (word-expand (s + n) seed))
+
+-- they lie in the blocks from s / 64 on, behind the first s % 64 bytes
+pub from-blocks : (s n : ℕ) (seed : List ℕ) → expand-from s n seed ≡ drop (s % 64) (key-stream (s % 64 + n) (s / 64) seed (zeros 12))
+unfolding expand-from
+from-blocks s n seed =
     let first : 0 + s / 64 ≡ s / 64 = omega arith in
-    rw (expand-is e seed)
-    (subst (λ (c : ℕ). drop s (key-stream e 0 seed (zeros 12)) ≡ drop (s % 64) (key-stream (e - 64 * (s / 64)) c seed (zeros 12))) first
-    (part-of-key-stream s e 0 seed (zeros 12) h))
+    let long : s + n - 64 * (s / 64) ≡ s % 64 + n = omega arith in
+    rw (expand-is (s + n) seed)
+    (part-of-key-stream s (s + n) 0 seed (zeros 12) (omega arith) ∙ rw (first, long))

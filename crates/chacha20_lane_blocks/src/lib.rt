@@ -1,10 +1,10 @@
-// Blocks of ChaCha20 side by side: four counters of one seed, or four seeds at counter 0. The lanes are opened, go through the rounds
+// Blocks of ChaCha20 side by side: four counters of one seed, or four seeds at one counter. The lanes are opened, go through the rounds
 // together and are serialized one after another. Assumes nothing.
 ghost use mathlib.Core.Path.{_≡_};
 ghost use Prim.Native.Nat.{_+_, _*_, _^_, _<_};
 ghost use lib.ListN.{length, take, drop};
 ghost use Rattle.chacha20.specs.Expand.{seed-state, blocks};
-ghost use Rattle.chacha20_lanes.specs.Lanes.{Side-by-side, lanes-bytes, lanes-blocks, first-blocks};
+ghost use Rattle.chacha20_lanes.specs.Lanes.{Side-by-side, lanes-bytes, lanes-blocks, blocks-at};
 use chacha20_lanes::lane;
 use chacha20_lanes::put_lane;
 use chacha20_lanes::twenty_rounds;
@@ -51,17 +51,17 @@ fn open_counters(seed: &[u8], counter: u32, states: &mut [u32])
     }
 }
 
-// Four seeds at counter 0.
-fn open_seeds(seeds: &[u8], states: &mut [u32])
+// Four seeds at one counter.
+fn open_seeds(seeds: &[u8], counter: u32, states: &mut [u32])
     requires { ⌜ (length (now seeds) ≡ 128) × (length (now states) ≡ 64) ⌝ }
-    ensures { λ r. ⌜ Side-by-side (now (states .exit)) (λ l. seed-state (take 32 (drop (32 * l) (now (seeds .entry)))) 0) ⌝ }
+    ensures { λ r. ⌜ Side-by-side (now (states .exit)) (λ l. seed-state (take 32 (drop (32 * l) (now (seeds .entry)))) counter) ⌝ }
 {
     let nonce = [0u8; 12];
     let mut l: usize = 0;
     while l < 4 {
         let from = 32 * l;
         let to = from + 32;
-        let words = chacha20_words::initial_state(&seeds[from..to], 0, &nonce);
+        let words = chacha20_words::initial_state(&seeds[from..to], counter, &nonce);
         put_lane(states, l, words);
         l += 1;
     }
@@ -77,12 +77,12 @@ pub fn four_counters(seed: &[u8], counter: u32, out: &mut [u8])
     blocks_beside(initial, out);
 }
 
-// The first blocks of four seeds that stand one after another.
-pub fn four_seeds(seeds: &[u8], out: &mut [u8])
+// The blocks of `counter` of four seeds that stand one after another.
+pub fn four_seeds(seeds: &[u8], counter: u32, out: &mut [u8])
     requires { ⌜ (length (now seeds) ≡ 128) × (length (now out) ≡ 256) ⌝ }
-    ensures { λ r. ⌜ now (out .exit) ≡ first-blocks 4 (now (seeds .entry)) ⌝ }
+    ensures { λ r. ⌜ now (out .exit) ≡ blocks-at 4 counter (now (seeds .entry)) ⌝ }
 {
     let mut initial = [0u32; 64];
-    open_seeds(seeds, &mut initial);
+    open_seeds(seeds, counter, &mut initial);
     blocks_beside(initial, out);
 }

@@ -14,7 +14,7 @@ use Rattle.chacha20.specs.Rfc8439.{initial-state}
 use Rattle.chacha20.proofs.Parts.{part-written, length-low-bytes}
 use Rattle.chacha20.proofs.Rounds.{one-round-less, no-round-left}
 use Rattle.chacha20.proofs.Stream.{seed-state-is}
-use Rattle.chacha20_lanes.specs.Lanes.{every-fourth, lane-of, Side-by-side, lanes-bytes, block-of, lanes-blocks, first-blocks}
+use Rattle.chacha20_lanes.specs.Lanes.{every-fourth, lane-of, Side-by-side, lanes-bytes, block-of, lanes-blocks, blocks-at}
 use Rattle.chacha20_lanes.proofs.Places.{lane-of-sums}
 
 -- ROUNDS of all lanes
@@ -110,22 +110,22 @@ module _ (ss : List ℕ) (l : ℕ) where
   seed-long long h = rw part (length-take-le 32 (drop (32 * l) ss) (omega (arith, length-drop (32 * l) ss)))
 
   -- its state
-  pub seed-opened : (words : List ℕ) → words ≡ initial-state (take (32 * l + 32 - 32 * l) (drop (32 * l) ss)) 0 (zeros 12) → words ≡ seed-state (take 32 (drop (32 * l) ss)) 0
-  seed-opened words is = is ∙ rw part (sym (seed-state-is (take 32 (drop (32 * l) ss)) 0))
+  pub seed-opened : (c : ℕ) (words : List ℕ) → words ≡ initial-state (take (32 * l + 32 - 32 * l) (drop (32 * l) ss)) c (zeros 12) → words ≡ seed-state (take 32 (drop (32 * l) ss)) c
+  seed-opened c words is = is ∙ rw part (sym (seed-state-is (take 32 (drop (32 * l) ss)) c))
 
-first-snoc : (k : ℕ) (ss : List ℕ) → first-blocks (suc k) ss ≡ first-blocks k ss ++ block (take 32 (drop (32 * k) ss)) 0
-unfolding first-blocks
-first-snoc zero ss = append-nil (block (take 32 ss) 0)
-first-snoc (suc k) ss =
+blocks-at-snoc : (k c : ℕ) (ss : List ℕ) → blocks-at (suc k) c ss ≡ blocks-at k c ss ++ block (take 32 (drop (32 * k) ss)) c
+unfolding blocks-at
+blocks-at-snoc zero c ss = append-nil (block (take 32 ss) c)
+blocks-at-snoc (suc k) c ss =
     let place : 32 + 32 * k ≡ 32 * suc k = omega arith in
-    ap (λ (l : List ℕ). block (take 32 ss) 0 ++ l) (first-snoc k (drop 32 ss))
-    ∙ rw (drop-drop (32 * k) 32 ss, place) (sym (append-assoc (block (take 32 ss) 0) (first-blocks k (drop 32 ss)) (block (take 32 (drop (32 * suc k) ss)) 0)))
+    ap (λ (l : List ℕ). block (take 32 ss) c ++ l) (blocks-at-snoc k c (drop 32 ss))
+    ∙ rw (drop-drop (32 * k) 32 ss, place) (sym (append-assoc (block (take 32 ss) c) (blocks-at k c (drop 32 ss)) (block (take 32 (drop (32 * suc k) ss)) c)))
 
-seeds-laid : (k : ℕ) (ss initial : List ℕ) → k ≤ 4 → Side-by-side initial (λ l. seed-state (take 32 (drop (32 * l) ss)) 0) → lanes-blocks k initial ≡ first-blocks k ss
-unfolding lanes-blocks first-blocks
-seeds-laid zero ss initial h opened = refl
-seeds-laid (suc k) ss initial h opened =
-    rw (seeds-laid k ss initial (omega arith) opened, opened .1 k (omega arith), block-is (take 32 (drop (32 * k) ss)) 0) (sym (first-snoc k ss))
+seeds-laid : (k c : ℕ) (ss initial : List ℕ) → k ≤ 4 → Side-by-side initial (λ l. seed-state (take 32 (drop (32 * l) ss)) c) → lanes-blocks k initial ≡ blocks-at k c ss
+unfolding lanes-blocks blocks-at
+seeds-laid zero c ss initial h opened = refl
+seeds-laid (suc k) c ss initial h opened =
+    rw (seeds-laid k c ss initial (omega arith) opened, opened .1 k (omega arith), block-is (take 32 (drop (32 * k) ss)) c) (sym (blocks-at-snoc k c ss))
 
-pub four-seeds : (ss initial out : List ℕ) → Side-by-side initial (λ l. seed-state (take 32 (drop (32 * l) ss)) 0) → out ≡ lanes-blocks 4 initial → out ≡ first-blocks 4 ss
-four-seeds ss initial out opened is = is ∙ seeds-laid 4 ss initial (omega arith) opened
+pub four-seeds : (c : ℕ) (ss initial out : List ℕ) → Side-by-side initial (λ l. seed-state (take 32 (drop (32 * l) ss)) c) → out ≡ lanes-blocks 4 initial → out ≡ blocks-at 4 c ss
+four-seeds c ss initial out opened is = is ∙ seeds-laid 4 c ss initial (omega arith) opened

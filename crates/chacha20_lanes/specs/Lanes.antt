@@ -40,7 +40,7 @@ unfoldable pub lanes-blocks : (count : ℕ) → (states : List ℕ) → List ℕ
 lanes-blocks zero xs = []
 lanes-blocks (suc k) xs = lanes-blocks k xs ++ block-of (lane-of k xs)
 
--- the first blocks of seeds of 32 bytes that stand one after another
-unfoldable pub first-blocks : (left : ℕ) → (seeds : List ℕ) → List ℕ
-first-blocks zero ss = []
-first-blocks (suc k) ss = block (take 32 ss) 0 ++ first-blocks k (drop 32 ss)
+-- the blocks of one counter of seeds of 32 bytes that stand one after another
+unfoldable pub blocks-at : (left c : ℕ) → (seeds : List ℕ) → List ℕ
+blocks-at zero c ss = []
+blocks-at (suc k) c ss = block (take 32 ss) c ++ blocks-at k c (drop 32 ss)

@@ -13,7 +13,7 @@ use Rattle.xor.proofs.Laws.{Word, word-xors, length-xors, xors-assoc, xors-zero
 use Rattle.grid.specs.Grid.{Board, columns, grid-rows, row-long, row-of, piece, xor-rows, xor-all}
 use Rattle.grid.proofs.Facts.{Board-in, cell-in, cell-fits, grid-row-in}
 use Rattle.chacha20.specs.Expand.{expand}
-use Rattle.chacha20.proofs.Stream.{word-expand}
+use Rattle.chacha20.proofs.Stream.{word-expand, from-zero}
 use Rattle.seed_rows.specs.Rows.{rows-joined, rule}
 use Rattle.seed_rows.proofs.Seeds.{rows-of-front}
 use Rattle.keys.specs.Keys.{rows-from, words-from}
@@ -66,19 +66,20 @@ words-turn k n bs xs so-far is = is ∙ rw (so-far, add-one) (sym (xor-words-sno
 
 -- ROWS one after another, into what is there
 
-xor-rows-joined : (k n : ℕ) (ss xs : List ℕ) → Word n xs → xors xs (rows-joined k n ss) ≡ xor-all (rows-from k (expand n) ss) xs
+xor-rows-joined : (k n : ℕ) (ss xs : List ℕ) → Word n xs → xors xs (rows-joined k 0 n ss) ≡ xor-all (rows-from k (expand n) ss) xs
 unfolding rows-joined xor-all rows-from
 xor-rows-joined zero n ss xs w = xors-zeros-right n xs w
 xor-rows-joined (suc k) n ss xs w =
     let row = expand n (take 32 ss) in
-    sym (xors-assoc xs row (rows-joined k n (drop 32 ss))) ∙ xor-rows-joined k n (drop 32 ss) (xors xs row) (word-xors xs row w (word-expand n (take 32 ss)))
+    rw (from-zero n (take 32 ss))
+    (sym (xors-assoc xs row (rows-joined k 0 n (drop 32 ss))) ∙ xor-rows-joined k n (drop 32 ss) (xors xs row) (word-xors xs row w (word-expand n (take 32 ss))))
 
 -- of seeds that are cut out of all seeds
 pub cut-rows : (from k n : ℕ) (seeds xs : List ℕ) → from + 32 * k ≤ length seeds → Word n xs → let cut = take (from + 32 * k - from) (drop from seeds) in
-    xors xs (rows-joined (length cut / 32) n cut) ≡ xor-all (rows-from k (expand n) (drop from seeds)) xs
+    xors xs (rows-joined (length cut / 32) 0 n cut) ≡ xor-all (rows-from k (expand n) (drop from seeds)) xs
 cut-rows from k n seeds xs room w =
     let all : 32 * k / 32 ≡ k = omega arith in
-    rw (part-whole from (32 * k) seeds room, all, part-long from (32 * k), rows-of-front k n (32 * k) (drop from seeds) (omega arith)) (xor-rows-joined k n (drop from seeds) xs w)
+    rw (part-whole from (32 * k) seeds room, all, part-long from (32 * k), rows-of-front k 0 n (32 * k) (drop from seeds) (omega arith)) (xor-rows-joined k n (drop from seeds) xs w)
 
 -- THE ROWS OF A GRID ROW, out of all rows
 
@@ -132,7 +133,7 @@ module _ (b : Board) (f : Board-in b) (a : ℕ) (value seeds words : List ℕ) (
       piece-out ≡ zeros (a % b .wide * b .w) ++ value ++ zeros (first - (a % b .wide * b .w + length value)) →
       words-out ≡ xor-all (words-from (J - 1) second words) piece-out →
       32 * (a / b .wide * J) + 32 * J ≤ length seeds → length words-out ≡ third → bytes-good words-out ≡ true →
-      rows-out ≡ xors words-out (rows-joined (length (cut J) / 32) third (cut J)) → rows-out ≡ dealt-word b (rule b) a value seeds words
+      rows-out ≡ xors words-out (rows-joined (length (cut J) / 32) 0 third (cut J)) → rows-out ≡ dealt-word b (rule b) a value seeds words
   word-steps first second third J e f g h {piece-out} {words-out} {rows-out} p q room long good r =
       let rows = cut-rows (32 * (a / b .wide * J)) J third seeds words-out room (record { long = long; good = good }) in
       word-made (rw e at p) (rw (h, f) at q) (rw (h, g) at (r ∙ rows))

@@ -50,7 +50,7 @@ fn last_word(out: &mut [u8], board: Board, point: u32, value: &[u8], seeds: &[u8
     xor_words(out, columns - 1, words);
     let from = SEED_BYTES * ((point / board.width) as usize * columns);
     let end = from + SEED_BYTES * columns;
-    xor_rows(&seeds[from..end], out);
+    xor_rows(&seeds[from..end], 0, out);
 }
 
 // Writes the last word from place `at` on.

@@ -78,9 +78,9 @@ pub fn sensor_position(sensor: u32) -> Answer
     accepted(grid::sensor::sensor_place(sensor))
 }
 
-// EXPAND: 7, 16; fills the output with the first bytes of the seed's key stream.
-pub fn expand_seed(seed: &[u8], output: &mut [u8]) -> u32
-    ensures { λ r. ⌜ Expand-says (now (seed .entry)) r (now (output .entry)) (now (output .exit)) ⌝ }
+// EXPAND: 7, 16; fills the output with the bytes from `start` on of the seed's key stream. Nothing overflows, whatever `start` is.
+pub fn expand_seed(seed: &[u8], start: usize, output: &mut [u8]) -> u32
+    ensures { λ r. ⌜ Expand-says (now (seed .entry)) start r (now (output .entry)) (now (output .exit)) ⌝ }
 {
     if seed.len() != SEED_BYTES {
         return REFUSED_LENT;
@@ -88,6 +88,9 @@ pub fn expand_seed(seed: &[u8], output: &mut [u8]) -> u32
     if MOST_ROW_BYTES < output.len() {
         return REFUSED_EXPANSION;
     }
-    seed_row::expand(seed, output);
+    if MOST_ROW_BYTES - output.len() < start {
+        return REFUSED_EXPANSION;
+    }
+    seed_row::expand(seed, start, output);
     ACCEPTED
 }

@@ -1,21 +1,21 @@
 -- The shares of a grid row are the XOR of the words of its marked columns and of the rows of its held seeds, whatever the order: so all rows
 -- are XORed at once, and expanded only as far as they are wanted. Assumes nothing.
-use mathlib.Core.Path.{_≡_, refl, sym, ap, _∙_, subst}
+use mathlib.Core.Path.{_≡_, refl, sym, ap, _∙_}
 use mathlib.Core.Bool.{Bool, true, false, cond}
 use mathlib.Core.List.{List, [], _∷_}
 use Prim.Native.Nat.{ℕ, zero, suc, _+_, _*_, _-_, _/_, _≤_}
 use native.Mathlib.Omega.{arith}
 use lib.ListN.{length, take, drop, length-drop}
-use lib.Seq.{drop-drop, length-take-le, take-all}
+use lib.Seq.{drop-drop, length-take-le}
 use Rattle.xor.specs.Xor.{xors, zeros, bytes-good}
-use Rattle.xor.proofs.Laws.{Word, word-drop, word-zeros, xors-assoc, xors-comm, xors-left-comm, good-zeros, good-xors, xors-zeros-left, drop-xors, xor-from-zero, good-head, good-tail}
+use Rattle.xor.proofs.Laws.{word-zeros, xors-assoc, xors-comm, xors-left-comm, good-zeros, good-xors, xors-zeros-left, xor-from-zero, good-head, good-tail}
 use Rattle.chacha20.specs.Expand.{expand}
-use Rattle.chacha20.proofs.Stream.{take-expand}
+use Rattle.chacha20.specs.From.{expand-from}
+use Rattle.chacha20.proofs.Stream.{from-within}
 use Rattle.seed_rows.specs.Rows.{rows-joined}
 use Rattle.seed_rows.proofs.Joined.{word-rows}
-use Rattle.seed_rows.proofs.Seeds.{front-end, rows-of-front}
+use Rattle.seed_rows.proofs.Seeds.{rows-of-front}
 use Rattle.grid.specs.Grid.{Board, columns, grid-rows, row-long}
-use Rattle.grid.proofs.Cells.{drop-zeros}
 use Rattle.keys.specs.Keys.{mark-bytes, count-marks, stride, word-behind}
 use Rattle.keys.specs.Held.{marked}
 use Rattle.open_grid_row.specs.Shares.{stretch, shares, shares-from}
@@ -42,15 +42,15 @@ zeros-add-nothing n [] h good = refl
 zeros-add-nothing zero (x ∷ xs) h good = let none : ⊥ = omega arith in absurd none
 zeros-add-nothing (suc n) (x ∷ xs) h good = rw (xor-from-zero 8 x (good-head x xs good), zeros-add-nothing n xs (omega arith) (good-tail x xs good))
 
--- a stretch of a row is the end of a row that is expanded as far as the stretch goes
-row-stretch : (s n l : ℕ) (seed : List ℕ) → s + n ≤ l → drop s (expand (s + n) seed) ≡ stretch s n (expand l seed)
+-- bytes from a starting byte on are a stretch of the row
+row-stretch : (s n l : ℕ) (seed : List ℕ) → s + n ≤ l → expand-from s n seed ≡ stretch s n (expand l seed)
 unfolding stretch
-row-stretch s n l seed h = ap (λ (xs : List ℕ). drop s xs) (sym (take-expand (s + n) l seed h)) ∙ front-end s n (expand l seed)
+row-stretch s n l seed h = from-within s n l seed h
 
 module _ (b : Board) (ps : List ℕ) (g s n : ℕ) (within : s + n ≤ row-long b) where
   -- the rows of so many held seeds from the q-th on, from byte s on
   abbrev rows-behind : (count q : ℕ) → List ℕ
-  rows-behind count q = drop s (rows-joined count (s + n) (drop (mark-bytes b + 32 * q) ps))
+  rows-behind count q = rows-joined count s n (drop (mark-bytes b + 32 * q) ps)
 
   abbrev row-of-seed : (q : ℕ) → List ℕ
   row-of-seed q = stretch s n (expand (row-long b) (take 32 (drop (mark-bytes b + 32 * q) ps)))
@@ -70,7 +70,7 @@ module _ (b : Board) (ps : List ℕ) (g s n : ℕ) (within : s + n ≤ row-long 
 
   no-rows : (q : ℕ) → rows-behind 0 q ≡ zeros n
   unfolding rows-joined
-  no-rows q = drop-zeros s (s + n) n refl
+  no-rows q = refl
 
   one-row-more : (count q : ℕ) → rows-behind (suc count) q ≡ xors (row-of-seed q) (rows-behind count (suc q))
   unfolding rows-joined
@@ -78,7 +78,7 @@ module _ (b : Board) (ps : List ℕ) (g s n : ℕ) (within : s + n ≤ row-long 
       let seeds = drop (mark-bytes b + 32 * q) ps in
       let next : mark-bytes b + 32 * q + 32 ≡ mark-bytes b + 32 * suc q = omega arith in
       let behind : drop 32 seeds ≡ drop (mark-bytes b + 32 * suc q) ps = drop-drop 32 (mark-bytes b + 32 * q) ps ∙ ap (λ (m : ℕ). drop m ps) next in
-      drop-xors s (expand (s + n) (take 32 seeds)) (rows-joined count (s + n) (drop 32 seeds)) ∙ rw (behind, row-stretch s n (row-long b) (take 32 seeds) within)
+      rw (behind, row-stretch s n (row-long b) (take 32 seeds) within)
 
   by-mark : (t : Bool) (xs word words with without : List ℕ) (count q : ℕ) →
       with ≡ xors (xors xs (xors word (row-of-seed q))) (xors words (rows-behind count (suc q))) → without ≡ xors xs (xors words (rows-behind count q)) →
@@ -102,51 +102,46 @@ module _ (b : Board) (ps : List ℕ) (g s n : ℕ) (within : s + n ≤ row-long 
       (by-mark (marked ps j) xs (stretch s n (word-behind b ps g j)) (words-from-on k (suc j)) _ _ (count-marks k (suc j) ps) q
       (halves-from k (suc j) (suc q) (xors xs one) (omega (arith, length-xors-le xs one)) (good-xors xs one)) (halves-from k (suc j) q xs long good))
 
+  -- the rows of all held seeds, and with the words no more than the bytes that are wanted
+  abbrev held-rows : List ℕ
+  held-rows = rows-joined (columns b / 2) s n (drop (mark-bytes b) ps)
+
+  into-zeros : (words : List ℕ) → xors (zeros n) (xors held-rows words) ≡ xors held-rows words
+  into-zeros words =
+      let rows-long : length held-rows ≡ n = word-rows (columns b / 2) s n (drop (mark-bytes b) ps) .long in
+      let short : length (xors held-rows words) ≤ n = omega (arith, length-xors-le held-rows words) in
+      xors-comm (zeros n) (xors held-rows words) ∙ zeros-add-nothing n (xors held-rows words) short (good-xors held-rows words)
+
   -- the two halves of the shares
-  shares-are : count-marks (columns b) 0 ps ≡ columns b / 2 →
-      shares b (expand (row-long b)) ps g s n ≡ xors (drop s (rows-joined (columns b / 2) (s + n) (drop (mark-bytes b) ps))) (grid-row-words b ps g s n)
+  shares-are : count-marks (columns b) 0 ps ≡ columns b / 2 → shares b (expand (row-long b)) ps g s n ≡ xors held-rows (grid-row-words b ps g s n)
   unfolding shares grid-row-words
   shares-are half =
       let first : mark-bytes b + 32 * 0 ≡ mark-bytes b = omega arith in
       let words = words-from-on (columns b) 0 in
-      let rows = drop s (rows-joined (columns b / 2) (s + n) (drop (mark-bytes b) ps)) in
-      let rows-long : length rows ≡ n = word-drop s _ (word-rows (columns b / 2) (s + n) (drop (mark-bytes b) ps)) .long ∙ omega arith in
-      let short : length (xors rows words) ≤ n = omega (arith, length-xors-le rows words) in
       halves-from (columns b) 0 0 (zeros n) (omega (arith, word-zeros n .long)) (good-zeros n)
-      ∙ rw (half, first) (rw (xors-comm words rows) (xors-comm (zeros n) (xors rows words) ∙ zeros-add-nothing n (xors rows words) short (good-xors rows words)))
+      ∙ rw (half, first) (rw (xors-comm words held-rows) (into-zeros words))
+
+  -- XORed into zeros they are as they are
+  pub shares-fresh : count-marks (columns b) 0 ps ≡ columns b / 2 → xors (zeros n) (shares b (expand (row-long b)) ps g s n) ≡ shares b (expand (row-long b)) ps g s n
+  shares-fresh half = rw (shares-are half) (into-zeros (grid-row-words b ps g s n))
 
 module _ (b : Board) (ps : List ℕ) (g : ℕ) (half : count-marks (columns b) 0 ps ≡ columns b / 2) (room : stride b ≤ length ps) (seeds : List ℕ)
     (seeds-are : seeds ≡ take (32 * (columns b / 2)) (drop (mark-bytes b) ps)) where
   -- the rows of the held seeds, counted by their bytes
-  held-rows : (n : ℕ) → rows-joined (length seeds / 32) n seeds ≡ rows-joined (columns b / 2) n (drop (mark-bytes b) ps)
+  rows-held : (s n : ℕ) → rows-joined (length seeds / 32) s n seeds ≡ rows-joined (columns b / 2) s n (drop (mark-bytes b) ps)
   unfolding stride
-  held-rows n =
+  rows-held s n =
       let count = columns b / 2 in
       let long : length (take (32 * count) (drop (mark-bytes b) ps)) ≡ 32 * count = length-take-le (32 * count) (drop (mark-bytes b) ps) (rw length-drop (omega (arith, room))) in
       let all : length seeds / 32 ≡ count = ap (λ (l : List ℕ). length l / 32) seeds-are ∙ ap (λ (k : ℕ). k / 32) long ∙ omega arith in
-      rw (all, seeds-are) (rows-of-front count n (32 * count) (drop (mark-bytes b) ps) (omega arith))
+      rw (all, seeds-are) (rows-of-front count s n (32 * count) (drop (mark-bytes b) ps) (omega arith))
 
   -- rows and words XORed in, one after the other, are the shares XORed in
-  pub part-added : (old rows-in words-in : List ℕ) → length rows-in ≡ length old → length old ≤ row-long b → rows-in ≡ xors old (rows-joined (length seeds / 32) (length old) seeds) →
-      words-in ≡ xors rows-in (grid-row-words b ps g 0 (length rows-in)) → words-in ≡ xors old (shares b (expand (row-long b)) ps g 0 (length old))
-  part-added old rows-in words-in long within rows-is words-is =
+  pub shares-added : (s : ℕ) (old rows-in words-in : List ℕ) → length rows-in ≡ length old → s + length old ≤ row-long b →
+      rows-in ≡ xors old (rows-joined (length seeds / 32) s (length old) seeds) → words-in ≡ xors rows-in (grid-row-words b ps g s (length rows-in)) →
+      words-in ≡ xors old (shares b (expand (row-long b)) ps g s (length old))
+  shares-added s old rows-in words-in long within rows-is words-is =
       let n = length old in
-      let here : 0 + n ≡ n = omega arith in
-      let both = shares-are b ps g 0 n (omega arith) half in
-      words-is ∙ rw (long, rows-is, held-rows n)
-      (xors-assoc old (rows-joined (columns b / 2) n (drop (mark-bytes b) ps)) (grid-row-words b ps g 0 n) ∙ ap (λ (l : List ℕ). xors old l) (sym (rw here at both)))
-
-  -- and so are the rows' stretch, taken from where they were XORed, and the words XORed into zeros
-  pub part-opened : (s n : ℕ) (row-old row cleared rows-in words-in : List ℕ) → s + n ≤ row-long b → row-old ≡ zeros (s + n) →
-      row ≡ xors row-old (rows-joined (length seeds / 32) (length row-old) seeds) → cleared ≡ zeros n →
-      rows-in ≡ xors cleared (take (length row - s) (drop s row)) → length rows-in ≡ n → words-in ≡ xors rows-in (grid-row-words b ps g s (length rows-in)) →
-      words-in ≡ shares b (expand (row-long b)) ps g s n
-  part-opened s n row-old row cleared rows-in words-in within row-zeros row-is cleared-is rows-is long words-is =
-      let rows = rows-joined (columns b / 2) (s + n) (drop (mark-bytes b) ps) in
-      let whole : Word (s + n) rows = word-rows (columns b / 2) (s + n) (drop (mark-bytes b) ps) in
-      let end : Word (s + n - s) (drop s rows) = word-drop s rows whole in
-      let count : s + n - s ≡ n = omega arith in
-      let row-now : row ≡ rows = row-is ∙ rw (row-zeros, word-zeros (s + n) .long, held-rows (s + n)) (xors-zeros-left (s + n) rows whole) in
-      let all : take (length row - s) (drop s row) ≡ drop s rows = rw row-now (take-all (length rows - s) (drop s rows) (rw length-drop (omega arith))) in
-      let rows-now : rows-in ≡ drop s rows = rows-is ∙ rw (cleared-is, all) (xors-zeros-left n (drop s rows) (subst (λ (m : ℕ). Word m (drop s rows)) count end)) in
-      words-is ∙ rw (long, rows-now) (sym (shares-are b ps g s n within half))
+      words-is ∙ rw (long, rows-is, rows-held s n)
+      (xors-assoc old (rows-joined (columns b / 2) s n (drop (mark-bytes b) ps)) (grid-row-words b ps g s n)
+      ∙ ap (λ (l : List ℕ). xors old l) (sym (shares-are b ps g s n within half)))

@@ -8,13 +8,12 @@ use key_lengths::stride;
 use key_marks::mark;
 use reader::part_from;
 use seed_rows::xor_rows;
-use writer::clear;
 use xor::xor_into;
 ghost use mathlib.Core.Path.{_≡_};
 ghost use mathlib.Core.Bool.{cond};
 ghost use Prim.Native.Nat.{_+_, _*_, _-_, _/_, _≤_, _<_};
 ghost use lib.ListN.{length, take, drop};
-ghost use Rattle.xor.specs.Xor.{xors, zeros};
+ghost use Rattle.xor.specs.Xor.{xors};
 ghost use Rattle.seed_rows.specs.Rows.{rule};
 ghost use Rattle.grid.specs.Grid.{board-refusal, columns, grid-rows, row-long};
 ghost use Rattle.grid.specs.Code.{board-of};
@@ -75,35 +74,14 @@ fn grid_row_seeds(part: &[u8], board: Board) -> &[u8]
     &part[from..end]
 }
 
-// XORs into `out` the shares of the grid row at which the part begins, from the first byte of them on.
-pub fn add_part(part: &[u8], board: Board, grid_row: usize, out: &mut [u8])
+// XORs into `out` the shares of the grid row at which the part begins, from byte `from` of them on.
+pub fn add_shares(part: &[u8], board: Board, grid_row: usize, from: usize, out: &mut [u8])
     requires { ⌜ (board-refusal (board-of board) ≡ 0) × («grid_row» < grid-rows (board-of board))
         × (length (now part) ≡ (grid-rows (board-of board) - «grid_row») * stride (board-of board) + columns (board-of board) * row-long (board-of board))
         × (count-marks (columns (board-of board)) 0 (now part) ≡ columns (board-of board) / 2)
-        × (length (now out) ≤ row-long (board-of board)) ⌝ }
-    ensures { λ r. ⌜ now (out .exit) ≡ xors (now (out .entry)) (shares (board-of board) (rule (board-of board)) (now (part .entry)) «grid_row» 0 (length (now (out .entry)))) ⌝ }
+        × (from + length (now out) ≤ row-long (board-of board)) ⌝ }
+    ensures { λ r. ⌜ now (out .exit) ≡ xors (now (out .entry)) (shares (board-of board) (rule (board-of board)) (now (part .entry)) «grid_row» from (length (now (out .entry)))) ⌝ }
 {
-    xor_rows(grid_row_seeds(part, board), out);
-    add_grid_row_words(part, board, grid_row, 0, out);
-}
-
-// Fills `out` with these shares from byte `from` on. The rows are XORed in `row`, which is zeros as far as the shares that are wanted.
-pub fn open_part(
-    part: &[u8],
-    board: Board,
-    grid_row: usize,
-    from: usize,
-    row: &mut [u8],
-    out: &mut [u8],
-)
-    requires { ⌜ (board-refusal (board-of board) ≡ 0) × («grid_row» < grid-rows (board-of board))
-        × (length (now part) ≡ (grid-rows (board-of board) - «grid_row») * stride (board-of board) + columns (board-of board) * row-long (board-of board))
-        × (count-marks (columns (board-of board)) 0 (now part) ≡ columns (board-of board) / 2)
-        × (now row ≡ zeros (from + length (now out))) × (from + length (now out) ≤ row-long (board-of board)) ⌝ }
-    ensures { λ r. ⌜ now (out .exit) ≡ shares (board-of board) (rule (board-of board)) (now (part .entry)) «grid_row» from (length (now (out .entry))) ⌝ }
-{
-    xor_rows(grid_row_seeds(part, board), row);
-    clear(out);
-    xor_into(out, &row[from..]);
+    xor_rows(grid_row_seeds(part, board), from, out);
     add_grid_row_words(part, board, grid_row, from, out);
 }

@@ -5,14 +5,16 @@ use mathlib.Core.List.{List}
 use Prim.Native.Nat.{ℕ, _+_, _*_, _/_, _%_, _≤_}
 use native.Mathlib.Nat.{mul-le-mul}
 use native.Mathlib.Omega.{arith}
-use lib.ListN.{length, take, replicate}
+use lib.ListN.{length, take}
 use lib.Seq.{length-take-le}
-use Rattle.xor.specs.Xor.{zeros}
-use Rattle.grid.specs.Grid.{Board, row-long}
+use Rattle.xor.specs.Xor.{xors, zeros}
+use Rattle.xor.proofs.Laws.{word-zeros}
+use Rattle.chacha20.specs.Expand.{expand}
+use Rattle.grid.specs.Grid.{Board, columns, row-long}
 use Rattle.grid.proofs.Facts.{Board-in, cell-in, cell-fits}
-use Rattle.grid.proofs.Cells.{take-zeros}
-use Rattle.keys.specs.Keys.{grid-row-part}
+use Rattle.keys.specs.Keys.{count-marks, grid-row-part}
 use Rattle.open_grid_row.specs.Shares.{shares}
+use Rattle.open_grid_row.proofs.Halves.{shares-fresh}
 use Rattle.open_key.specs.Opened.{square-of}
 use Rattle.open_key.proofs.Tables.{opened-shares}
 
@@ -29,14 +31,14 @@ cell-within b f a = omega (arith, cell-fits b (a % b .wide) (cell-in b f a))
 pub prefix-long : (n : ℕ) (xs : List ℕ) → n ≤ length xs → n ≡ length (take n xs)
 prefix-long n xs h = sym (length-take-le n xs h)
 
--- the front of a scratch row is zeros
-pub scratch-zeros : (s n : ℕ) (xs : List ℕ) → s + n ≤ 4096 → n ≤ length xs → take (s + n) (replicate {A = ℕ} 4096 0) ≡ zeros (s + length (take n xs))
-unfolding zeros
-scratch-zeros s n xs small h = rw (← (prefix-long n xs h)) (take-zeros (s + n) 4096 small)
-
--- what is written is the square's share: its grid row, its place there and its length are the code's numbers
-pub square-written : (b : Board) (f : List ℕ → List ℕ) (bs written part : List ℕ) (a g from n : ℕ) → written ≡ shares b f part g from n →
-    part ≡ grid-row-part b bs g → g ≡ a / b .wide → from ≡ a % b .wide * b .w → n ≡ b .w → written ≡ square-of b f bs a
+-- what is added to zeros is the square's share: its grid row, its place there and its length are the code's numbers
+pub square-added : (b : Board) (bs old cleared now part : List ℕ) (a g from : ℕ) → cleared ≡ zeros (length old) →
+    now ≡ xors cleared (shares b (expand (row-long b)) part g from (length cleared)) → part ≡ grid-row-part b bs g → count-marks (columns b) 0 part ≡ columns b / 2 →
+    from + b .w ≤ row-long b → g ≡ a / b .wide → from ≡ a % b .wide * b .w → length old ≡ b .w → now ≡ square-of b (expand (row-long b)) bs a
 unfolding square-of
-square-written b f bs written part a g from n is p row place w =
-    is ∙ rw (p, row, place, w) (sym (opened-shares b f (grid-row-part b bs (a / b .wide)) a))
+square-added b bs old cleared now part a g from clear is p marks room row place long =
+    let all : length cleared ≡ b .w = rw clear (word-zeros (length old) .long) ∙ long in
+    let fresh : xors cleared (shares b (expand (row-long b)) part g from (length cleared)) ≡ shares b (expand (row-long b)) part g from (b .w) =
+    rw (all, clear, long) (shares-fresh b part g from (b .w) room marks) in
+    let square = opened-shares b (expand (row-long b)) (grid-row-part b bs (a / b .wide)) a in
+    is ∙ _∙_ {b = shares b (expand (row-long b)) part g from (b .w)} fresh (rw (p, row, place) (sym square))

@@ -4,8 +4,7 @@
 // the key and the room for the output, and passes what stands behind the header. Assumes nothing.
 use grid::board::Board;
 use key_lengths::stride;
-use open_grid_row::add_part;
-use open_grid_row::open_part;
+use open_grid_row::add_shares;
 use reader::part_from;
 use writer::clear;
 ghost use mathlib.Core.Path.{_≡_};
@@ -27,25 +26,31 @@ fn grid_row_part(body: &[u8], board: Board, grid_row: usize) -> &[u8]
     part_from(body, grid_row * stride(board))
 }
 
-// Writes a square's share, worked out of the board's numbers and the part of the key that begins at the square's grid row. Rows are
-// expanded as far as the square's cell.
-pub fn open_square(body: &[u8], board: Board, position: u32, out: &mut [u8])
-    requires { ⌜ Accepted-body (board-of board) (now body) × (position < board .positions) × (board .«value_bytes» ≤ length (now out)) ⌝ }
-    ensures { λ r. ⌜ now (out .exit) ≡ in-front (square-of (board-of board) (rule (board-of board)) (now (body .entry)) position) (now (out .entry)) ⌝ }
+// Fills `out`, which has a cell's length, with a square's share, worked out of the part of the key that begins at the square's grid row. Of
+// each row only the square's cell is expanded.
+fn fill_square(body: &[u8], board: Board, position: u32, out: &mut [u8])
+    requires { ⌜ Accepted-body (board-of board) (now body) × (position < board .positions) × (length (now out) ≡ board .«value_bytes») ⌝ }
+    ensures { λ r. ⌜ now (out .exit) ≡ square-of (board-of board) (rule (board-of board)) (now (body .entry)) position ⌝ }
 {
-    let mut scratch = [0u8; 4096];
     let grid_row = (position / board.width) as usize;
-    let from = ((position % board.width) * board.value_bytes) as usize;
-    let count = board.value_bytes as usize;
-    let end = from + count;
-    open_part(
+    let from = (position % board.width * board.value_bytes) as usize;
+    clear(out);
+    add_shares(
         grid_row_part(body, board, grid_row),
         board,
         grid_row,
         from,
-        &mut scratch[..end],
-        &mut out[..count],
+        out,
     );
+}
+
+// Writes a square's share.
+pub fn open_square(body: &[u8], board: Board, position: u32, out: &mut [u8])
+    requires { ⌜ Accepted-body (board-of board) (now body) × (position < board .positions) × (board .«value_bytes» ≤ length (now out)) ⌝ }
+    ensures { λ r. ⌜ now (out .exit) ≡ in-front (square-of (board-of board) (rule (board-of board)) (now (body .entry)) position) (now (out .entry)) ⌝ }
+{
+    let count = board.value_bytes as usize;
+    fill_square(body, board, position, &mut out[..count]);
 }
 
 // The lesser of two lengths.
@@ -67,10 +72,11 @@ pub fn add_table(body: &[u8], board: Board, out: &mut [u8])
     while grid_row < grid_rows {
         let at = grid_row * row_bytes;
         let end = at + least(row_bytes, out.len() - at);
-        add_part(
+        add_shares(
             grid_row_part(body, board, grid_row),
             board,
             grid_row,
+            0,
             &mut out[at..end],
         );
         grid_row += 1;

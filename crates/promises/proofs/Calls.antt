@@ -113,7 +113,7 @@ refused-leaves =
       open-all = λ key r out out-now h. untouched _ _ r out out-now h;
       join-shares = λ p w shares r out out-now h. untouched _ _ r out out-now h;
       join-keys = λ keys r out out-now h. untouched _ _ r out out-now h;
-      expand = λ seed r out out-now h. untouched _ _ r out out-now h;
+      expand = λ seed s r out out-now h. untouched _ _ r out out-now h;
     }
 
 -- BYTES PAST THOSE NAMED

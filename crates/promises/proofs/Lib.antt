@@ -11,6 +11,7 @@ pub mod Demand3
 pub mod OfTheCalls
 pub mod RestsOn
 pub mod BadArrays
+pub mod Expansion
 pub mod ChooseWidth
 pub mod PrintedNumbers
 pub mod Document03

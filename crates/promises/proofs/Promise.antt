@@ -8,6 +8,7 @@ use Rattle.promises.proofs.Demand3.{demand-3}
 use Rattle.promises.proofs.OfTheCalls.{of-the-calls}
 use Rattle.promises.proofs.RestsOn.{rests-on}
 use Rattle.promises.proofs.BadArrays.{bad-arrays}
+use Rattle.promises.proofs.Expansion.{expansion}
 use Rattle.promises.proofs.ChooseWidth.{choose-width}
 use Rattle.promises.proofs.PrintedNumbers.{printed-numbers}
 use Rattle.promises.proofs.Document03.{document-03}
@@ -21,6 +22,7 @@ promises =
       of-the-calls = of-the-calls;
       rests-on = rests-on;
       bad-arrays = bad-arrays;
+      expansion = expansion;
       choose-width = choose-width;
       printed-numbers = printed-numbers;
       document-03 = document-03;

@@ -8,6 +8,7 @@ pub use Rattle.promises.specs.Demand3.{Demand-3}
 pub use Rattle.promises.specs.OfTheCalls.{Of-the-calls}
 pub use Rattle.promises.specs.RestsOn.{Rests-on}
 pub use Rattle.promises.specs.BadArrays.{Bad-arrays}
+pub use Rattle.promises.specs.Expansion.{Expansion}
 pub use Rattle.promises.specs.ChooseWidth.{Choose-width}
 pub use Rattle.promises.specs.PrintedNumbers.{Printed-numbers}
 pub use Rattle.promises.specs.Document03.{Document-03}
@@ -25,6 +26,8 @@ pub record Promises : Type 0 where
   pub rests-on : Rests-on
   -- what Deal says is wrong with arrays, and where
   pub bad-arrays : Bad-arrays
+  -- what Expand gives from a starting byte on
+  pub expansion : Expansion
   pub choose-width : Choose-width
   pub printed-numbers : Printed-numbers
   -- document 03's own statements

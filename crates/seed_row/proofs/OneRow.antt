@@ -1,20 +1,22 @@
--- One row, XORed into an output from the front, some blocks at a time: what is done is the XOR of what stood there and the row, the rest is as
--- it was. Assumes nothing.
-use mathlib.Core.Path.{_≡_, refl, sym, _∙_, subst}
-use mathlib.Core.List.{List, _++_, append-nil}
-use Prim.Native.Nat.{ℕ, _+_, _*_, _-_, _<_, _≤_, min}
+-- A stretch of one row, out of the blocks that hold it, and gone over part by part. Assumes nothing.
+use mathlib.Core.Path.{_≡_, refl, sym, ap, _∙_}
+use mathlib.Core.List.{List, _++_}
+use Prim.Native.Nat.{ℕ, _+_, _-_, _/_, _%_, _≤_}
 use native.Mathlib.Omega.{arith}
-use native.Mathlib.Nat.{zero-add}
-use lib.ListN.{length, take, drop, drop-of-length-le}
-use lib.Seq.{take-all, take-add, take-append-le, drop-at, length-take-le}
-use borrow.Rule.Slice.PartMut.{midOf, putMid, mid-len, same-len-mid}
+use lib.ListN.{length, take, drop}
+use lib.Seq.{take-append-le, take-all}
+use borrow.Rule.Slice.PartMut.{midOf, putMid, mid-len}
 use Rattle.xor.specs.Xor.{xors, zeros}
-use Rattle.xor.proofs.Laws.{take-xors, drop-xors, length-xors}
-use Rattle.chacha20.specs.Expand.{block, blocks, expand}
+use Rattle.xor.proofs.Laws.{length-xors}
+use Rattle.writer.specs.Written.{Wrote}
+use Rattle.writer.proofs.Laws.{written-front, in-front-whole}
+use Rattle.chacha20.specs.Expand.{blocks}
+use Rattle.chacha20.specs.From.{expand-from}
 use Rattle.chacha20.specs.Rfc8439.{chacha20-block, key-stream}
-use Rattle.chacha20.proofs.Parts.{part-written}
-use Rattle.chacha20.proofs.Stream.{blocks-is, block-is, expand-is, word-block, word-expand, key-stream-of, take-key-stream, drop-key-stream}
-use Rattle.chacha20_blocks.proofs.Written.{key-stream-short}
+use Rattle.chacha20.proofs.Parts.{front-end}
+use Rattle.chacha20.proofs.Stream.{blocks-is, word-block, word-stream, word-from, key-stream-of, from-blocks, part-of-from}
+use Rattle.chacha20_blocks.proofs.OneBlock.{key-stream-short}
+use Rattle.seed_row.proofs.Walks.{Gone, next-gone, part-xored}
 
 -- the front of four blocks
 pub front-of-four : (n c : ℕ) (seed made : List ℕ) → n ≤ 256 → made ≡ blocks 4 c seed → take n made ≡ key-stream n c seed (zeros 12)
@@ -26,69 +28,52 @@ front-of-one n c seed made rest h is =
     let nonce = zeros 12 in
     rw is (take-append-le n (chacha20-block seed c nonce) rest (omega (arith, word-block seed nonce c .long)) ∙ sym (key-stream-short n c seed nonce h))
 
--- a row of at most a block
-pub short-row : (n : ℕ) (seed : List ℕ) → n ≤ 64 → take n (block seed 0) ≡ expand n seed
-short-row n seed h = rw (expand-is n seed, block-is seed 0) (sym (key-stream-short n 0 seed (zeros 12) h))
+-- what is wanted lies behind the first bytes of the blocks that are made
+pub stretch-made : (at n c skip end : ℕ) (seed made : List ℕ) → c ≡ at / 64 → skip ≡ at % 64 → end ≡ skip + n → take end made ≡ key-stream end c seed (zeros 12) →
+    take (end - skip) (drop skip made) ≡ expand-from at n seed
+stretch-made at n c skip end seed made c-is skip-is end-is front =
+    let long : skip + n - skip ≡ n = omega arith in
+    rw (end-is, long)
+    (sym (front-end skip n made) ∙ ap (λ (xs : List ℕ). drop skip xs) (rw end-is at front) ∙ rw (skip-is, c-is) (sym (from-blocks at n seed)))
 
--- bytes from a block's start on are those of the stream from its counter on
-stream-part : (rest m c : ℕ) (seed : List ℕ) → m ≤ rest → key-stream m c seed (zeros 12) ≡ take m (drop (64 * c) (expand (64 * c + rest) seed))
-stream-part rest m c seed within =
-    let nonce = zeros 12 in
-    rw (expand-is (64 * c + rest) seed, drop-key-stream c rest 0 seed nonce, zero-add c) (sym (take-key-stream m rest c seed nonce within))
+-- four whole blocks are the stretch that begins with the first of them
+pub four-whole : (at n c : ℕ) (seed out : List ℕ) → c ≡ at / 64 → n ≡ 256 → at % 64 + n ≤ 256 → out ≡ blocks 4 c seed → out ≡ expand-from at n seed
+four-whole at n c seed out c-is n-is room is =
+    let first : at % 64 ≡ 0 = omega arith in
+    let whole : take 256 out ≡ key-stream 256 c seed (zeros 12) = front-of-four 256 c seed out (omega arith) is in
+    let long : length out ≡ 256 = rw (is, blocks-is 4 c seed) (word-stream 4 c seed (zeros 12) .long) in
+    sym (from-blocks at n seed ∙ rw (first, n-is, ← c-is) (sym whole ∙ take-all 256 out (omega (arith, long))))
 
-grid-row-part : (n from m c : ℕ) (seed : List ℕ) → from ≡ 64 * c → from + m ≤ n → key-stream m c seed (zeros 12) ≡ take m (drop from (expand n seed))
-grid-row-part n from m c seed place within =
-    let all : 64 * c + (n - from) ≡ n = omega arith in
-    subst (λ (a : ℕ). key-stream m c seed (zeros 12) ≡ take m (drop a (expand n seed))) (sym place)
-    (subst (λ (a : ℕ). key-stream m c seed (zeros 12) ≡ take m (drop (64 * c) (expand a seed))) all (stream-part (n - from) m c seed (omega arith)))
+-- a stretch that is written over the whole output
+pub all-put : (at : ℕ) (seed old part now : List ℕ) (r : ℕ) → Wrote 0 part r old now → part ≡ expand-from at (length old) seed → now ≡ expand-from at (length old) seed
+all-put at seed old part now r wrote part-is =
+    let long : length part ≡ length old = rw part-is (word-from at (length old) seed .long) in
+    wrote .now-is ∙ written-front part old ∙ in-front-whole part old long ∙ part-is
 
--- the bytes before `done` are XORed with the row's; while some are left, `done` is where the block of `counter` begins
-pub record Xored (seed old out : List ℕ) (done counter : ℕ) : Type 0 where
-  pub within : done ≤ length old
-  pub same : length out ≡ length old
-  pub place : done < length old → done ≡ 64 * counter
-  pub so-far : out ≡ take done (xors old (expand (length old) seed)) ++ drop done old
-
-pub none-xored : (seed old : List ℕ) (counter : ℕ) → counter ≡ 0 → Xored seed old old 0 counter
-none-xored seed old counter h = record { within = omega arith; same = refl; place = λ some. omega arith; so-far = refl }
-
-module _ (seed old out : List ℕ) (done counter : ℕ) (w : Xored seed old out done counter) where
+module _ (seed old out : List ℕ) (start done : ℕ) where
   abbrev row : List ℕ
-  row = expand (length old) seed
+  row = expand-from start (length old) seed
 
-  new-long : length (xors old row) ≡ length old
-  new-long = length-xors old row (sym (word-expand (length old) seed .long))
+  row-part : (end m had : ℕ) → done ≤ end → end ≤ length old → m ≡ end - done → had ≡ m → expand-from (start + done) had seed ≡ take m (drop done row)
+  row-part end m had on room m-is had-is = rw had-is (sym (part-of-from start (length old) done m seed (omega arith)))
 
-  done-long : length (take done (xors old row)) ≡ done
-  done-long = let within = w .within in length-take-le done (xors old row) (omega (arith, new-long))
+  pub xored-long : length (xors old row) ≡ length old
+  xored-long = length-xors old row (sym (word-from start (length old) seed .long))
 
-  -- the next bytes are still as they were
-  next-old : drop done out ≡ drop done old
-  next-old = rw (w .so-far) (drop-at (take done (xors old row)) (drop done old) done done-long)
-
-  -- a turn of the loop: four blocks, or what is left of the row, become their XOR with the stream from the counter on
-  pub next-part : (end next : ℕ) (part : List ℕ) → next ≡ counter + 4 → done < length out → end ≡ min (done + 256) (length out) →
-      length part ≡ length (midOf done (end - done) out) →
-      part ≡ xors (midOf done (end - done) out) (key-stream (length (midOf done (end - done) out)) counter seed (zeros 12)) →
-      Xored seed old (putMid done (end - done) out part) end next
-  next-part end next part next-is room end-is long part-is =
-      let m = end - done in
+  -- a turn of the loop that writes
+  pub next-written : Gone row old out done → (end : ℕ) (part : List ℕ) → done ≤ end → end ≤ length out → length part ≡ length (midOf done (end - done) out) →
+      part ≡ expand-from (start + done) (length (midOf done (end - done) out)) seed → Gone row old (putMid done (end - done) out part) end
+  next-written w end part on room long is =
       let same = w .same in
-      let start = w .place (omega arith) in
-      let all : done + m ≡ end = omega arith in
-      let m-long : length (midOf done m out) ≡ m = mid-len done end out (omega arith) in
-      let new-part : part ≡ take m (drop done (xors old row)) = part-is ∙ rw (m-long, grid-row-part (length old) done m counter seed start (omega arith), next-old) (sym (rw (drop-xors done old row) (take-xors m (drop done old) (drop done row)))) in
-      record {
-        within = omega arith;
-        same = same-len-mid done m out part long ∙ same;
-        place = λ left. omega arith;
-        so-far =
-            part-written (take done (xors old row)) old out part done end done-long (omega arith) (w .so-far)
-            ∙ rw new-part (rw (sym (take-add done m (xors old row)), all));
-      }
+      next-gone row old out done (word-from start (length old) seed .long) w end part on room long
+      (is ∙ row-part end (end - done) _ on (omega arith) (omega arith) (mid-len done end out room))
 
-  -- where the row ends with a turn, it is XORed in
-  pub ended : length out ≤ done → out ≡ xors old row
-  ended h =
+  -- and of the loop that XORs
+  pub next-xored : Gone (xors old row) old out done → (end : ℕ) (part : List ℕ) → done ≤ end → end ≤ length out → length part ≡ length (midOf done (end - done) out) →
+      part ≡ xors (midOf done (end - done) out) (expand-from (start + done) (length (midOf done (end - done) out)) seed) →
+      Gone (xors old row) old (putMid done (end - done) out part) end
+  next-xored w end part on room long is =
       let same = w .same in
-      w .so-far ∙ rw (take-all done (xors old row) (omega (arith, new-long)), drop-of-length-le old {i = done} (omega arith)) (append-nil (xors old row))
+      next-gone (xors old row) old out done xored-long w end part on room long
+      (part-xored old row out done xored-long w (end - done) part (midOf done (end - done) out) _ refl is
+      (row-part end (end - done) _ on (omega arith) (omega arith) (mid-len done end out room)))

@@ -1,10 +1,11 @@
-// One row from its seed, by document 01: `expand` makes it, `xor_row` XORs it into an output. Blocks are made by four counters side by side; a
-// block that is left over is made alone. Assumes nothing.
+// One row from its seed, by document 01, from any byte of it on: `expand` writes a stretch of it, `xor_row` XORs one into an output. Both go over
+// the stretch by the blocks that hold it, four at a time: four counters side by side, or one block by itself where one holds all that is
+// wanted. Assumes nothing.
 ghost use mathlib.Core.Path.{_≡_};
-ghost use Prim.Native.Nat.{_+_, _^_, _<_, _≤_, min};
+ghost use Prim.Native.Nat.{_+_, _-_, _%_, _^_, _<_, _≤_, min};
 ghost use lib.ListN.{length, take};
 ghost use Rattle.xor.specs.Xor.{xors, zeros};
-ghost use Rattle.chacha20.specs.Expand.{expand};
+ghost use Rattle.chacha20.specs.From.{expand-from};
 ghost use Rattle.chacha20.specs.Rfc8439.{key-stream};
 
 // Bytes of a block of the key stream.
@@ -13,84 +14,86 @@ pub const BLOCK_BYTES: usize = 64;
 // Bytes of four blocks.
 const FOUR_BLOCKS_BYTES: usize = 256;
 
-// XORs the first bytes of `blocks` into `out`, as many as it has.
-pub fn xor_front(blocks: &[u8], out: &mut [u8])
-    requires { ⌜ length (now out) ≤ length (now blocks) ⌝ }
-    ensures { λ r. ⌜ now (out .exit) ≡ xors (now (out .entry)) (take (length (now (out .entry))) (now (blocks .entry))) ⌝ }
+// Makes blocks from that of `counter` on, so many that they have the first `bytes` bytes of the key stream there: one by itself, or four.
+fn make_blocks(seed: &[u8], counter: u32, bytes: usize, made: &mut [u8])
+    requires { ⌜ (length (now seed) ≡ 32) × (counter + 4 < 2 ^ 32) × (bytes ≤ 256) × (length (now made) ≡ 256) ⌝ }
+    ensures { λ r. ⌜ take bytes (now (made .exit)) ≡ key-stream bytes counter (now (seed .entry)) (zeros 12) ⌝ }
 {
-    let bytes = out.len();
-    xor::xor_into(out, &blocks[..bytes]);
-}
-
-// XORs the key stream from the block of `counter` on into `out`, which has at most the length of four blocks. `made` is room for them.
-fn xor_blocks(seed: &[u8], counter: u32, made: &mut [u8], out: &mut [u8])
-    requires { ⌜ (length (now seed) ≡ 32) × (counter + 4 < 2 ^ 32) × (length (now made) ≡ 256) × (length (now out) ≤ 256) ⌝ }
-    ensures { λ r. ⌜ now (out .exit) ≡ xors (now (out .entry)) (key-stream (length (now (out .entry))) counter (now (seed .entry)) (zeros 12)) ⌝ }
-{
-    if out.len() <= BLOCK_BYTES {
+    if bytes <= BLOCK_BYTES {
         let nonce = [0u8; 12];
         chacha20_blocks::block(seed, counter, &nonce, &mut made[..BLOCK_BYTES]);
-        xor_front(made, out);
         return;
     }
     chacha20_lane_blocks::four_counters(seed, counter, made);
-    xor_front(made, out);
 }
 
-// Where the next four blocks end that begin at `done`, or the row of `all` bytes.
-fn next_end(done: usize, all: usize) -> usize
-    requires { ⌜ (done < all) × (all ≤ 4096) ⌝ }
-    ensures { λ r. ⌜ r ≡ min (done + 256) all ⌝ }
+// Where a stretch ends that goes on at byte `at` of the row with its byte `done`, so far as the block of that byte and those behind it reach:
+// `most` bytes of blocks. Or where the stretch of `all` bytes ends.
+pub fn next_end(at: usize, done: usize, all: usize, most: usize) -> usize
+    requires { ⌜ (done < all) × (all ≤ 4096) × (64 ≤ most) × (most ≤ 256) ⌝ }
+    ensures { λ r. ⌜ r ≡ min (done + (most - at % 64)) all ⌝ }
 {
-    if all - done < FOUR_BLOCKS_BYTES {
+    let room = most - at % BLOCK_BYTES;
+    if all - done < room {
         return all;
     }
-    done + FOUR_BLOCKS_BYTES
+    done + room
 }
 
-// XORs the row of one seed into `out`, by four blocks or what is left of it.
-pub fn xor_row(seed: &[u8], out: &mut [u8])
-    requires { ⌜ (length (now seed) ≡ 32) × (length (now out) ≤ 4096) ⌝ }
-    ensures { λ r. ⌜ now (out .exit) ≡ xors (now (out .entry)) (expand (length (now (out .entry))) (now (seed .entry))) ⌝ }
+// XORs the row's bytes from byte `at` on into `out`. `made` is room for the four blocks that have them.
+fn xor_stretch(seed: &[u8], at: usize, made: &mut [u8], out: &mut [u8])
+    requires { ⌜ (length (now seed) ≡ 32) × (at ≤ 4096) × (length (now made) ≡ 256) × (at % 64 + length (now out) ≤ 256) ⌝ }
+    ensures { λ r. ⌜ now (out .exit) ≡ xors (now (out .entry)) (expand-from at (length (now (out .entry))) (now (seed .entry))) ⌝ }
+{
+    let skip = at % BLOCK_BYTES;
+    let end = skip + out.len();
+    make_blocks(seed, (at / BLOCK_BYTES) as u32, end, made);
+    xor::xor_into(out, &made[skip..end]);
+}
+
+// XORs the row of one seed from byte `start` on into `out`.
+pub fn xor_row(seed: &[u8], start: usize, out: &mut [u8])
+    requires { ⌜ (length (now seed) ≡ 32) × (start + length (now out) ≤ 4096) ⌝ }
+    ensures { λ r. ⌜ now (out .exit) ≡ xors (now (out .entry)) (expand-from start (length (now (out .entry))) (now (seed .entry))) ⌝ }
 {
     let mut made = [0u8; 256];
     let mut done: usize = 0;
-    let mut counter: u32 = 0;
     while done < out.len() {
-        let end = next_end(done, out.len());
-        xor_blocks(seed, counter, &mut made, &mut out[done..end]);
+        let at = start + done;
+        let end = next_end(at, done, out.len(), FOUR_BLOCKS_BYTES);
+        xor_stretch(seed, at, &mut made, &mut out[done..end]);
         done = end;
-        counter += 4;
     }
 }
 
-// Less than four blocks of the key stream from the block of `counter` on: at most one by itself, else four that are made and cut.
-fn put_rest(seed: &[u8], counter: u32, out: &mut [u8])
-    requires { ⌜ (length (now seed) ≡ 32) × (counter + 4 < 2 ^ 32) × (length (now out) < 256) ⌝ }
-    ensures { λ r. ⌜ now (out .exit) ≡ key-stream (length (now (out .entry))) counter (now (seed .entry)) (zeros 12) ⌝ }
+// Fills `out` with the row's bytes from byte `at` on, which four blocks have: whole blocks are written where they belong, others cut.
+fn put_stretch(seed: &[u8], at: usize, out: &mut [u8])
+    requires { ⌜ (length (now seed) ≡ 32) × (at ≤ 4096) × (at % 64 + length (now out) ≤ 256) ⌝ }
+    ensures { λ r. ⌜ now (out .exit) ≡ expand-from at (length (now (out .entry))) (now (seed .entry)) ⌝ }
 {
-    if out.len() <= BLOCK_BYTES {
-        let nonce = [0u8; 12];
-        chacha20_blocks::key_stream(seed, counter, &nonce, out);
+    let counter = (at / BLOCK_BYTES) as u32;
+    if out.len() == FOUR_BLOCKS_BYTES {
+        chacha20_lane_blocks::four_counters(seed, counter, out);
         return;
     }
     let mut made = [0u8; 256];
-    chacha20_lane_blocks::four_counters(seed, counter, &mut made);
-    chacha20_blocks::copy_front(&made, out);
+    let skip = at % BLOCK_BYTES;
+    let end = skip + out.len();
+    make_blocks(seed, counter, end, &mut made);
+    writer::put(out, 0, &made[skip..end]);
 }
 
-// Document 01, "Rows from seeds": the seed is the key, the nonce twelve zero bytes, and the block counter starts at 0.
-pub fn expand(seed: &[u8], out: &mut [u8])
-    requires { ⌜ (length (now seed) ≡ 32) × (length (now out) ≤ 4096) ⌝ }
-    ensures { λ r. ⌜ now (out .exit) ≡ expand (length (now (out .entry))) (now (seed .entry)) ⌝ }
+// Document 01, "Rows from seeds", and document 02, (ii): the seed is the key, the nonce twelve zero bytes, the block counter starts at 0, and
+// the row's bytes from byte `start` on are written.
+pub fn expand(seed: &[u8], start: usize, out: &mut [u8])
+    requires { ⌜ (length (now seed) ≡ 32) × (start + length (now out) ≤ 4096) ⌝ }
+    ensures { λ r. ⌜ now (out .exit) ≡ expand-from start (length (now (out .entry))) (now (seed .entry)) ⌝ }
 {
-    let mut next: u32 = 0;
     let mut done: usize = 0;
-    while FOUR_BLOCKS_BYTES <= out.len() - done {
-        let end = done + FOUR_BLOCKS_BYTES;
-        chacha20_lane_blocks::four_counters(seed, next, &mut out[done..end]);
+    while done < out.len() {
+        let at = start + done;
+        let end = next_end(at, done, out.len(), FOUR_BLOCKS_BYTES);
+        put_stretch(seed, at, &mut out[done..end]);
         done = end;
-        next += 4;
     }
-    put_rest(seed, next, &mut out[done..]);
 }

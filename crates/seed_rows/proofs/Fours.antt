@@ -1,42 +1,70 @@
--- Four rows of at most a block each, from the first blocks of four seeds, and the seeds taken by fours. Assumes nothing.
-use mathlib.Core.Path.{_≡_, sym, ap, _∙_}
+-- Parts of four rows that one block of each has, out of the blocks of four seeds, and the seeds taken by fours. Assumes nothing.
+use mathlib.Core.Path.{_≡_, refl, sym, ap, _∙_}
 use mathlib.Core.List.{List, _++_}
-use Prim.Native.Nat.{ℕ, zero, suc, _+_, _*_, _-_, _/_, _<_, _≤_}
+use Prim.Native.Nat.{ℕ, zero, suc, _+_, _*_, _-_, _/_, _%_, _<_, _≤_}
 use native.Mathlib.Omega.{arith}
 use native.Mathlib.Nat.{not-suc-le-zero}
 use lib.ListN.{length, take, drop, length-drop}
-use lib.Seq.{take-at, take-all, drop-at, drop-drop, length-take-le}
+use lib.Seq.{take-at, take-all, take-take, drop-at, drop-drop, length-take-le}
+use borrow.Rule.Slice.PartMut.{midOf, putMid, mid-len}
 use Rattle.xor.specs.Xor.{xors, zeros}
-use Rattle.xor.proofs.Laws.{xors-assoc}
-use Rattle.chacha20.specs.Expand.{block, expand}
+use Rattle.xor.proofs.Laws.{xors-assoc, length-xors}
+use Rattle.chacha20.specs.Expand.{block}
+use Rattle.chacha20.specs.From.{expand-from}
+use Rattle.chacha20.specs.Rfc8439.{key-stream}
 use Rattle.chacha20.proofs.Stream.{block-is, word-block}
-use Rattle.chacha20_lanes.specs.Lanes.{first-blocks}
+use Rattle.chacha20_blocks.proofs.OneBlock.{key-stream-short}
+use Rattle.chacha20_lanes.specs.Lanes.{blocks-at}
+use Rattle.seed_row.proofs.Walks.{Gone, next-gone, part-xored}
+use Rattle.seed_row.proofs.OneRow.{stretch-made}
 use Rattle.seed_rows.specs.Rows.{rows-joined}
-use Rattle.seed_row.proofs.OneRow.{short-row}
-use Rattle.seed_rows.proofs.Joined.{rows-add}
+use Rattle.seed_rows.proofs.Joined.{word-rows, rows-add, rows-part}
 use Rattle.seed_rows.proofs.Seeds.{rows-of-front}
 
-block-long : (seed : List ℕ) → length (block seed 0) ≡ 64
-block-long seed = rw (block-is seed 0) (word-block seed (zeros 12) 0 .long)
+block-long : (seed : List ℕ) (c : ℕ) → length (block seed c) ≡ 64
+block-long seed c = rw (block-is seed c) (word-block seed (zeros 12) c .long)
 
 -- the block of one of the seeds
-first-at : (k i : ℕ) (ss : List ℕ) → i < k → take 64 (drop (64 * i) (first-blocks k ss)) ≡ block (take 32 (drop (32 * i) ss)) 0
-unfolding first-blocks
-first-at zero i ss h = absurd (not-suc-le-zero h)
-first-at (suc k) zero ss h = take-at (block (take 32 ss) 0) (first-blocks k (drop 32 ss)) 64 (block-long (take 32 ss))
-first-at (suc k) (suc i) ss h =
-    let first = block (take 32 ss) 0 in
+block-at : (k c i : ℕ) (ss : List ℕ) → i < k → take 64 (drop (64 * i) (blocks-at k c ss)) ≡ block (take 32 (drop (32 * i) ss)) c
+unfolding blocks-at
+block-at zero c i ss h = absurd (not-suc-le-zero h)
+block-at (suc k) c zero ss h = take-at (block (take 32 ss) c) (blocks-at k c (drop 32 ss)) 64 (block-long (take 32 ss) c)
+block-at (suc k) c (suc i) ss h =
+    let first = block (take 32 ss) c in
+    let rest = blocks-at k c (drop 32 ss) in
     let here : 64 * suc i ≡ 64 + 64 * i = omega arith in
     let seed : 32 + 32 * i ≡ 32 * suc i = omega arith in
-    let behind : drop (64 * suc i) (first ++ first-blocks k (drop 32 ss)) ≡ drop (64 * i) (first-blocks k (drop 32 ss)) = rw here (sym (drop-drop (64 * i) 64 (first ++ first-blocks k (drop 32 ss))) ∙ ap (λ (l : List ℕ). drop (64 * i) l) (drop-at first (first-blocks k (drop 32 ss)) 64 (block-long (take 32 ss)))) in
-    rw behind (first-at k i (drop 32 ss) (omega arith) ∙ rw (drop-drop (32 * i) 32 ss, seed))
+    let behind : drop (64 * suc i) (first ++ rest) ≡ drop (64 * i) rest = rw here (sym (drop-drop (64 * i) 64 (first ++ rest)) ∙ ap (λ (l : List ℕ). drop (64 * i) l) (drop-at first rest 64 (block-long (take 32 ss) c))) in
+    rw behind (block-at k c i (drop 32 ss) (omega arith) ∙ rw (drop-drop (32 * i) 32 ss, seed))
 
--- a row as the code takes it out of the four blocks
-pub row-of-four : (i had n : ℕ) (ss made : List ℕ) → i < 4 → n ≤ 64 → had ≡ n → made ≡ first-blocks 4 ss →
-    take had (take (64 * i + 64 - 64 * i) (drop (64 * i) made)) ≡ expand n (take 32 (drop (32 * i) ss))
-row-of-four i had n ss made h short e is =
-    let part : 64 * i + 64 - 64 * i ≡ 64 = omega arith in
-    rw (e, part, is, first-at 4 i ss h) (short-row n (take 32 (drop (32 * i) ss)) short)
+-- what the code takes out of the four blocks is a part of a row
+pub row-of-four : (i at c skip had n : ℕ) (ss made : List ℕ) → i < 4 → c ≡ at / 64 → skip ≡ at % 64 → skip + n ≤ 64 → had ≡ n → made ≡ blocks-at 4 c ss →
+    take (64 * i + skip + had - (64 * i + skip)) (drop (64 * i + skip) made) ≡ expand-from at n (take 32 (drop (32 * i) ss))
+row-of-four i at c skip had n ss made h c-is skip-is room e is =
+    let seed = take 32 (drop (32 * i) ss) in
+    let part : 64 * i + skip + had - (64 * i + skip) ≡ n = omega arith in
+    let one : take (skip + n) (drop (64 * i) made) ≡ key-stream (skip + n) c seed (zeros 12) =
+    sym (take-take (skip + n) 64 (drop (64 * i) made) room) ∙ rw (is, block-at 4 c i ss h, block-is seed c) (sym (key-stream-short (skip + n) c seed (zeros 12) room)) in
+    let long : skip + n - skip ≡ n = omega arith in
+    rw (part, ← (drop-drop skip (64 * i) made))
+    (ap (λ (k : ℕ). take k (drop skip (drop (64 * i) made))) (sym long) ∙ stretch-made at n c skip (skip + n) seed (drop (64 * i) made) c-is skip-is refl one)
+
+-- a turn of the loop that goes over the blocks
+module _ (ss old out : List ℕ) (start done : ℕ) where
+  abbrev rows : List ℕ
+  rows = rows-joined 4 start (length old) ss
+
+  pub rows-long : length (xors old rows) ≡ length old
+  rows-long = length-xors old rows (sym (word-rows 4 start (length old) ss .long))
+
+  pub next-joined : Gone (xors old rows) old out done → (end : ℕ) (part : List ℕ) → done ≤ end → end ≤ length out → length part ≡ length (midOf done (end - done) out) →
+      part ≡ xors (midOf done (end - done) out) (rows-joined 4 (start + done) (length (midOf done (end - done) out)) ss) → Gone (xors old rows) old (putMid done (end - done) out part) end
+  next-joined w end part on room long is =
+      let same = w .same in
+      let had = mid-len done end out room in
+      next-gone (xors old rows) old out done rows-long w end part on room long
+      (part-xored old rows out done rows-long w (end - done) part (midOf done (end - done) out) _ refl is
+      (rw had (sym (rows-part 4 start (length old) done (end - done) ss (omega arith)))))
 
 -- four seeds as the code cuts them out
 module _ (ss : List ℕ) (taken : ℕ) where
@@ -47,21 +75,21 @@ module _ (ss : List ℕ) (taken : ℕ) where
   four-long h = rw part (length-take-le 128 (drop (32 * taken) ss) (omega (arith, length-drop (32 * taken) ss)))
 
   -- a turn of the loop: four seeds more
-  pub four-more : (n : ℕ) (old : List ℕ) {out new : List ℕ} (had after : ℕ) → had ≡ n → out ≡ xors old (rows-joined taken n ss) →
-      new ≡ xors out (rows-joined 4 had (take (32 * taken + 4 * 32 - 32 * taken) (drop (32 * taken) ss))) →
-      after ≡ taken + 4 → new ≡ xors old (rows-joined after n ss)
-  four-more n old {out} {new} had after e so-far is next =
-      is ∙ rw (so-far, e, part, next, rows-of-front 4 n 128 (drop (32 * taken) ss) (omega arith), rows-add taken 4 n ss)
-      (xors-assoc old (rows-joined taken n ss) (rows-joined 4 n (drop (32 * taken) ss)))
+  pub four-more : (s n : ℕ) (old : List ℕ) {out new : List ℕ} (had after : ℕ) → had ≡ n → out ≡ xors old (rows-joined taken s n ss) →
+      new ≡ xors out (rows-joined 4 s had (take (32 * taken + 4 * 32 - 32 * taken) (drop (32 * taken) ss))) →
+      after ≡ taken + 4 → new ≡ xors old (rows-joined after s n ss)
+  four-more s n old {out} {new} had after e so-far is next =
+      is ∙ rw (so-far, e, part, next, rows-of-front 4 s n 128 (drop (32 * taken) ss) (omega arith), rows-add taken 4 s n ss)
+      (xors-assoc old (rows-joined taken s n ss) (rows-joined 4 s n (drop (32 * taken) ss)))
 
   -- the seeds behind those taken by fours
-  pub rest-more : (n : ℕ) (old : List ℕ) {out new : List ℕ} (had : ℕ) → had ≡ n → 32 * taken ≤ length ss → out ≡ xors old (rows-joined taken n ss) →
-      new ≡ xors out (rows-joined (length (take (length ss - 32 * taken) (drop (32 * taken) ss)) / 32) had (take (length ss - 32 * taken) (drop (32 * taken) ss))) →
-      new ≡ xors old (rows-joined (length ss / 32) n ss)
-  rest-more n old {out} {new} had e h so-far is =
+  pub rest-more : (s n : ℕ) (old : List ℕ) {out new : List ℕ} (had : ℕ) → had ≡ n → 32 * taken ≤ length ss → out ≡ xors old (rows-joined taken s n ss) →
+      new ≡ xors out (rows-joined (length (take (length ss - 32 * taken) (drop (32 * taken) ss)) / 32) s had (take (length ss - 32 * taken) (drop (32 * taken) ss))) →
+      new ≡ xors old (rows-joined (length ss / 32) s n ss)
+  rest-more s n old {out} {new} had e h so-far is =
       let left = length-drop (32 * taken) ss in
       let rest : take (length ss - 32 * taken) (drop (32 * taken) ss) ≡ drop (32 * taken) ss = take-all (length ss - 32 * taken) (drop (32 * taken) ss) (omega arith) in
       let all : taken + length (drop (32 * taken) ss) / 32 ≡ length ss / 32 = omega arith in
       is
-      ∙ rw (so-far, e, rest, ← all, rows-add taken (length (drop (32 * taken) ss) / 32) n ss)
-      (xors-assoc old (rows-joined taken n ss) (rows-joined (length (drop (32 * taken) ss) / 32) n (drop (32 * taken) ss)))
+      ∙ rw (so-far, e, rest, ← all, rows-add taken (length (drop (32 * taken) ss) / 32) s n ss)
+      (xors-assoc old (rows-joined taken s n ss) (rows-joined (length (drop (32 * taken) ss) / 32) s n (drop (32 * taken) ss)))

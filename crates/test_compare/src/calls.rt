@@ -113,8 +113,11 @@ fn join_keys(inputs: &[u8], lent: &mut [u8]) -> Answered {
     alone(nosingginger::join_keys(inputs, lent))
 }
 
-fn expand(inputs: &[u8], lent: &mut [u8]) -> Answered {
-    alone(nosingginger::expand_seed(inputs, lent))
+// A start has 64 bits: its lower half, then its upper half.
+fn expand(head: &[u8], inputs: &[u8], lent: &mut [u8]) -> Answered {
+    let low = number_at(head, NUMBER_1) as usize;
+    let high = number_at(head, NUMBER_2) as usize;
+    alone(nosingginger::expand_seed(inputs, 4294967296 * high + low, lent))
 }
 
 fn choose_width(head: &[u8]) -> Answered {
@@ -135,7 +138,7 @@ fn called(operation: u8, head: &[u8], inputs: &[u8], lent: &mut [u8]) -> Answere
         OPEN_ALL => open_all(inputs, lent),
         JOIN_SHARES => join_shares(head, inputs, lent),
         JOIN_KEYS => join_keys(inputs, lent),
-        EXPAND => expand(inputs, lent),
+        EXPAND => expand(head, inputs, lent),
         CHOOSE_WIDTH => choose_width(head),
         SENSOR_POSITION => sensor_position(head),
         _ => alone(NO_OPERATION),

@@ -40,10 +40,10 @@ fn output_buffer() -> [u8; 70000]
 }
 
 // As many zeros as the file takes, and some more.
-fn file_buffer() -> [u8; 1600000]
-    ensures { λ r. ⌜ 1600000 ≡ length r ⌝ }
+fn file_buffer() -> [u8; 2000000]
+    ensures { λ r. ⌜ 2000000 ≡ length r ⌝ }
 {
-    [0; 1600000]
+    [0; 2000000]
 }
 
 // One operation's line, behind those of its cases that differ.

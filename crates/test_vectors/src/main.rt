@@ -1,8 +1,8 @@
-// Test vectors: RFC 8439's quarter round (2.1.1), block (2.3.2) and key streams (A.1), as the RFC prints them, expansions of two seeds
-// against the key streams that OpenSSL wrote into data/ (make-data.sh), and those lines of document 01 that are not marked †. Each is
-// compared as the program runs, and a line says whether they are equal. Assumes nothing.
+// Test vectors: RFC 8439's quarter round (2.1.1), block (2.3.2) and key streams (A.1), as the RFC prints them, expansions of two seeds, from
+// the start and from later bytes on, against the key streams that OpenSSL wrote into data/ (make-data.sh), and those lines of document 01
+// that are not marked †. Each is compared as the program runs, and a line says whether they are equal. Assumes nothing.
 ghost use mathlib.Core.Path.{_≡_};
-ghost use Prim.Native.Nat.{_≤_};
+ghost use Prim.Native.Nat.{_+_, _≤_};
 ghost use lib.ListN.{length};
 use grid::board::Board;
 use key_header::numbers::Number;
@@ -150,37 +150,52 @@ fn read(path: &[u8], out: &mut [u8]) {
     libc::close(file);
 }
 
-// The expansion that fills `out`, against as many bytes of the seed's key stream.
-fn compare(name: &[u8], seed: &[u8], stream: &[u8], out: &mut [u8])
-    requires { ⌜ (length (now seed) ≡ 32) × (length (now out) ≤ 4096) ⌝ }
+// The expansion from byte `start` on that fills `out`, against as many bytes of the seed's key stream.
+fn compare(name: &[u8], seed: &[u8], start: usize, stream: &[u8], out: &mut [u8])
+    requires { ⌜ (length (now seed) ≡ 32) × (start + length (now out) ≤ 4096) ⌝ }
 {
-    seed_row::expand(seed, out);
+    seed_row::expand(seed, start, out);
     io::write_all(STDOUT_FILENO, name);
-    io::write_all(STDOUT_FILENO, b" seed, bytes ");
+    io::write_all(STDOUT_FILENO, b" seed, from ");
+    io::print_decimal(STDOUT_FILENO, start as u64);
+    io::write_all(STDOUT_FILENO, b", bytes ");
     io::print_decimal(STDOUT_FILENO, out.len() as u64);
     found(check::same(out, stream));
 }
 
-// An expansion to some length, by the files of a seed and its key stream.
-fn expansion(name: &[u8], seed_path: &[u8], stream_path: &[u8], count: usize)
-    requires { ⌜ count ≤ 4096 ⌝ }
+// An expansion from byte `start` up to byte `end`, by the files of a seed and its key stream.
+fn expansion(name: &[u8], seed_path: &[u8], stream_path: &[u8], start: usize, end: usize)
+    requires { ⌜ (start ≤ end) × (end ≤ 4096) ⌝ }
 {
     let mut seed = [0u8; 32];
     read(seed_path, &mut seed);
     let mut stream = io::buffer();
     read(stream_path, &mut stream);
     let mut out = io::buffer();
-    compare(name, &seed, &stream[..count], &mut out[..count]);
+    compare(
+        name,
+        &seed,
+        start,
+        &stream[start..end],
+        &mut out[start..end],
+    );
 }
 
 fn expansions(name: &[u8], seed_path: &[u8], stream_path: &[u8]) {
-    expansion(name, seed_path, stream_path, 0);
-    expansion(name, seed_path, stream_path, 1);
-    expansion(name, seed_path, stream_path, 63);
-    expansion(name, seed_path, stream_path, 64);
-    expansion(name, seed_path, stream_path, 65);
-    expansion(name, seed_path, stream_path, 4095);
-    expansion(name, seed_path, stream_path, 4096);
+    expansion(name, seed_path, stream_path, 0, 0);
+    expansion(name, seed_path, stream_path, 0, 1);
+    expansion(name, seed_path, stream_path, 0, 63);
+    expansion(name, seed_path, stream_path, 0, 64);
+    expansion(name, seed_path, stream_path, 0, 65);
+    expansion(name, seed_path, stream_path, 0, 4095);
+    expansion(name, seed_path, stream_path, 0, 4096);
+    expansion(name, seed_path, stream_path, 1, 64);
+    expansion(name, seed_path, stream_path, 63, 65);
+    expansion(name, seed_path, stream_path, 64, 128);
+    expansion(name, seed_path, stream_path, 65, 4096);
+    expansion(name, seed_path, stream_path, 4080, 4096);
+    expansion(name, seed_path, stream_path, 4095, 4096);
+    expansion(name, seed_path, stream_path, 4096, 4096);
 }
 
 fn document_01(line: &[u8]) {

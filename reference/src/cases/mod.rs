@@ -4,13 +4,15 @@
 
 mod accepted;
 mod arrays;
+mod cells;
 mod damaged;
 mod limits;
 mod plain;
 pub mod programs;
+mod starts;
 
 use crate::board::Board;
-use crate::data::{Answer, Call, Case};
+use crate::data::{start_numbers, Answer, Call, Case, EXPAND};
 use crate::deal::Place;
 use crate::draw::{Drawn, Generator};
 use crate::key::header_of;
@@ -70,6 +72,8 @@ pub fn all() -> Vec<Case> {
     }
     arrays::add(&mut maker);
     limits::add(&mut maker);
+    starts::add(&mut maker);
+    cells::add(&mut maker);
     maker.cases
 }
 
@@ -129,6 +133,11 @@ fn bytes_call(operation: u8, numbers: &[u32], input: &[u8], lent: usize) -> Call
     call.inputs[0] = input.to_vec();
     call.lent = lent;
     call
+}
+
+/// A call of Expand.
+fn expand_call(seed: &[u8], start: u64, lent: usize) -> Call {
+    bytes_call(EXPAND, &start_numbers(start), seed, lent)
 }
 
 /// A call of Deal.

@@ -1,8 +1,8 @@
-//! Operations on numbers, seeds and shares: Key length, Choose width, Sensor position, Expand,
-//! Join shares.
+//! Operations on numbers, seeds and shares: Key length, Choose width, Sensor position, Expand from
+//! byte 0, Join shares.
 
-use super::{bytes_call, numbers_call, Maker};
-use crate::data::{CHOOSE_WIDTH, EXPAND, JOIN_SHARES, KEY_LENGTH, SENSOR_POSITION};
+use super::{bytes_call, expand_call, numbers_call, Maker};
+use crate::data::{CHOOSE_WIDTH, JOIN_SHARES, KEY_LENGTH, SENSOR_POSITION};
 
 pub fn add(maker: &mut Maker) {
     key_lengths(maker);
@@ -99,20 +99,21 @@ fn sensors(maker: &mut Maker) {
     }
 }
 
+/// Whole rows; `starts` has those from another byte on.
 fn expansions(maker: &mut Maker) {
     for length in [0, 1, 24, 63, 64, 65, 128, 200, 1_000, 4_095, 4_096] {
         let seed = maker.generator.bytes(32);
-        maker.add(0, bytes_call(EXPAND, &[], &seed, length));
+        maker.add(0, expand_call(&seed, 0, length));
     }
-    maker.add(0, bytes_call(EXPAND, &[], &[0; 32], 128));
+    maker.add(0, expand_call(&[0; 32], 0, 128));
     for seed_bytes in [0, 31, 33, 64] {
         let seed = maker.generator.bytes(seed_bytes);
-        maker.add(7, bytes_call(EXPAND, &[], &seed, 64));
-        maker.add(7, bytes_call(EXPAND, &[], &seed, 4_097));
+        maker.add(7, expand_call(&seed, 0, 64));
+        maker.add(7, expand_call(&seed, 0, 4_097));
     }
     for length in [4_097, 8_192] {
         let seed = maker.generator.bytes(32);
-        maker.add(16, bytes_call(EXPAND, &[], &seed, length));
+        maker.add(16, expand_call(&seed, 0, length));
     }
 }
 

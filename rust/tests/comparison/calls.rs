@@ -115,7 +115,7 @@ impl Comparison {
         self.tally.call(asked.operation, number);
     }
 
-    /// A call that writes to an output: `exact` bytes where it is accepted.
+    /// A call that writes to an output: `exact` bytes where it is accepted. Gives its number, 0 where it is accepted.
     fn output(
         &mut self,
         asked: &Asked,
@@ -123,9 +123,10 @@ impl Comparison {
         exact: usize,
         second: impl Fn(&mut [u8]) -> Result<(), u32>,
         library: impl Fn(&mut [u8]) -> Result<(), Refusal>,
-    ) {
+    ) -> u32 {
         let right = self.written(asked, length, exact, second, library);
         self.output_counted(asked, length, exact, right);
+        number_of(&right)
     }
 
     /// The same without counting it. Gives the answer.
@@ -261,15 +262,19 @@ impl Comparison {
     pub fn open_one(&mut self, key: &[u8], position: u32, length: usize) {
         let inputs = [self.lend(key)];
         let key = inputs[0].bytes();
-        let exact = reference::key::check_key(key).map_or(0, |read| read.value_width as usize);
+        let board = reference::key::check_key(key).and_then(|read| read.check());
+        let exact = board.map_or(0, |board| board.value_width);
         let asked = Asked { operation: Operation::OpenOne, numbers: &[position], inputs: &inputs };
-        self.output(
+        let number = self.output(
             &asked,
             length,
             exact,
             |share| reference::open::open_one(key, position, share),
             |share| nosingginger::open_one(key, position, share),
         );
+        if let (0, Ok(board)) = (number, board) {
+            self.tally.cell(&board, position);
+        }
     }
 
     pub fn open_all(&mut self, key: &[u8], length: usize) {
@@ -315,11 +320,20 @@ impl Comparison {
         self.tally.held_seed(right.is_some());
     }
 
-    pub fn expand(&mut self, seed: &[u8], length: usize) {
+    pub fn expand(&mut self, seed: &[u8], start: u64, length: usize) {
         let inputs = [self.lend(seed)];
         let seed = inputs[0].bytes();
-        let asked = Asked { operation: Operation::Expand, numbers: &[], inputs: &inputs };
-        self.output(&asked, length, length, |row| reference::chacha::expand(seed, row), |row| nosingginger::expand(seed, row));
+        // The start as reference/FORMAT.md has it.
+        let numbers = [start as u32, (start >> 32) as u32];
+        let asked = Asked { operation: Operation::Expand, numbers: &numbers, inputs: &inputs };
+        let number = self.output(
+            &asked,
+            length,
+            length,
+            |row| reference::chacha::expand(seed, start, row),
+            |row| nosingginger::expand(seed, start, row),
+        );
+        self.tally.stretch(start, length as u64, number);
     }
 
     pub fn choose_width(&mut self, players: u32, positions: u32) {

@@ -1,6 +1,7 @@
 //! Draws: numbers at and beyond their limits, lengths of outputs, boards.
 
 use reference::board::{Board, FEWEST_PLAYERS, MOST_GRID_ROWS, MOST_GRID_WIDTH, MOST_PLAYERS, MOST_POSITIONS, MOST_VALUE_WIDTH};
+use reference::chacha::{BLOCK_BYTES, MOST_ROW_BYTES};
 use reference::draw::Generator;
 
 pub trait Draw {
@@ -13,6 +14,9 @@ pub trait Draw {
     fn near(&mut self, least: u32, most: u32) -> u32;
     /// The length of an output that takes `exact` bytes: that, or longer, one short, empty, shorter.
     fn output_length(&mut self, exact: usize) -> usize;
+    /// Where so many bytes of a row start: mostly so that the longest row holds them, often at or beside the border of
+    /// two blocks or so that they end with the longest row; else further on, up to where the end is past 64 bits.
+    fn start(&mut self, length: usize) -> u64;
     /// A board whose openings cost at most `most_cost`.
     fn board(&mut self, most_cost: usize) -> Board;
 }
@@ -54,6 +58,20 @@ impl Draw for Generator {
         }
     }
 
+    fn start(&mut self, length: usize) -> u64 {
+        let last = MOST_ROW_BYTES.saturating_sub(length);
+        let near = match self.below(16) {
+            0..=2 => 0,
+            3..=6 => self.below(last + 1) as u64,
+            7..=10 => (BLOCK_BYTES * self.below(last / BLOCK_BYTES + 1)) as u64,
+            11 | 12 => last as u64,
+            13 => (length as u64).wrapping_neg(),
+            14 => u64::from(self.number()) << 32 | self.below(last + 1) as u64,
+            _ => u64::from(self.number()) << self.below(33),
+        };
+        near.wrapping_add_signed(self.pick(&[0, 0, 0, -1, 1]))
+    }
+
     fn board(&mut self, most_cost: usize) -> Board {
         loop {
             let most_positions = self.pick(&[1, 12, 80, 300, 4_000, MOST_POSITIONS]);
@@ -77,6 +95,19 @@ impl Draw for Generator {
 pub fn cost(board: &Board) -> usize {
     let blocks = board.grid_rows() * board.row_bytes().div_ceil(64);
     board.players * board.columns() * (blocks + board.positions / 16)
+}
+
+/// Whether the cell of a position lies in two blocks of its row.
+pub fn in_two_blocks(board: &Board, position: usize) -> bool {
+    let first = board.cell_of(position) * board.value_width;
+    first / BLOCK_BYTES != (first + board.value_width - 1) / BLOCK_BYTES
+}
+
+/// A position whose cell does, if the board has one.
+pub fn cell_in_two_blocks(board: &Board, generator: &mut Generator) -> Option<u32> {
+    let first = generator.below(board.positions);
+    let mut positions = (first..board.positions).chain(0..first);
+    positions.find(|&position| in_two_blocks(board, position)).map(|position| position as u32)
 }
 
 /// A board whose keys are as long as those of `board`, if a nearby one is: other positions in as many grid rows, or cells of another width.

@@ -1,7 +1,7 @@
 //! A round: one board, one drawn dealing, and calls about them, first right ones at the limits of their outputs, then drawn ones.
 
 use crate::calls::Comparison;
-use crate::draw::{as_long, cost, Draw};
+use crate::draw::{as_long, cell_in_two_blocks, cost, Draw};
 use crate::faults::{faulty_hand, faulty_key, hand, hand_with_fault, Keys};
 use crate::tally::Operation;
 use reference::board::{Board, FEWEST_PLAYERS, MOST_GRID_WIDTH, MOST_PLAYERS, MOST_POSITIONS, MOST_VALUE_WIDTH};
@@ -11,8 +11,9 @@ use reference::key::key_bytes;
 use reference::open::open_one;
 
 /// Boards (p, N, μ, w) at the limits, each visited once: document 01's own, the least and the largest numbers, 256 grid rows, a short last
-/// grid row, header numbers in one, two and three groups.
-pub const LIMIT_BOARDS: [(u32, u32, u32, u32); 22] = [
+/// grid row, header numbers in one, two and three groups; last values of all widths that do not divide a block, in rows
+/// that have a cell in two blocks.
+pub const LIMIT_BOARDS: [(u32, u32, u32, u32); 33] = [
     (2, 6, 4, 1),
     (2, 2, 2, 1),
     (4, 72, 24, 1),
@@ -35,6 +36,17 @@ pub const LIMIT_BOARDS: [(u32, u32, u32, u32); 22] = [
     (3, 65_536, 256, 5),
     (2, 65_536, 256, 16),
     (6, 65_536, 256, 16),
+    (2, 44, 22, 3),
+    (3, 40, 17, 5),
+    (4, 24, 12, 6),
+    (5, 20, 10, 7),
+    (6, 72, 48, 9),
+    (2, 72, 12, 10),
+    (3, 72, 17, 11),
+    (4, 72, 24, 12),
+    (5, 72, 34, 13),
+    (6, 30, 29, 14),
+    (2, 300, 256, 15),
 ];
 
 /// The costs of small, medium and large boards: the larger, the fewer of them are drawn, and the fewer calls of each.
@@ -84,7 +96,13 @@ impl Comparison {
             1..=24 => (MEDIUM, 30),
             _ => (SMALL, 60),
         };
-        let board = self.generator.board(most_cost);
+        let mut board = self.generator.board(most_cost);
+        // Few boards have a cell in two blocks: one in eight is drawn until it does.
+        if self.generator.one_in(8) {
+            while cell_in_two_blocks(&board, &mut self.generator).is_none() {
+                board = self.generator.board(most_cost);
+            }
+        }
         let round = self.new_round(board, earlier);
         self.right_calls(&round);
         for _ in 0..calls {
@@ -123,7 +141,8 @@ impl Comparison {
         }
         let player = self.generator.below(board.players);
         let key = &round.keys[player];
-        for position in [0, round.drawn.point, positions - 1, positions] {
+        let across = cell_in_two_blocks(&board, &mut self.generator);
+        for position in [0, round.drawn.point, positions - 1, positions].into_iter().chain(across) {
             self.open_one(key, position, board.value_width);
         }
         self.open_one(key, 0, board.value_width - 1);
@@ -196,9 +215,10 @@ impl Comparison {
     fn drawn_open_one(&mut self, round: &Round) {
         let board = round.drawn.board;
         let key = self.drawn_key(round);
-        let position = self.generator.near(0, board.positions as u32 - 1);
+        let drawn = self.generator.near(0, board.positions as u32 - 1);
+        let across = self.generator.one_in(2).then(|| cell_in_two_blocks(&board, &mut self.generator)).flatten();
         let length = self.generator.output_length(board.value_width);
-        self.open_one(&key, position, length);
+        self.open_one(&key, across.unwrap_or(drawn), length);
     }
 
     fn drawn_held_seed(&mut self, round: &Round) {
@@ -227,7 +247,8 @@ impl Comparison {
         let short = self.generator.below(300);
         let length =
             self.generator.pick(&[short, short, short, drawn, 0, 1, 63, 64, 65, 255, 256, 257, most - 1, most, most + 1, most + 900]);
-        self.expand(&seed, length);
+        let start = self.generator.start(length);
+        self.expand(&seed, start, length);
     }
 
     /// Positions at random, and about the squares where the width steps.

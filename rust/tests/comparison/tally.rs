@@ -1,6 +1,8 @@
 //! What was met: how many of each refusal each operation gave, and which limits; and what must have been met.
 
+use crate::draw::in_two_blocks;
 use reference::board::{Board, MOST_GRID_ROWS, MOST_GRID_WIDTH, MOST_POSITIONS, MOST_VALUE_WIDTH};
+use reference::chacha::{BLOCK_BYTES, MOST_ROW_BYTES};
 
 #[derive(Clone, Copy, Debug, PartialEq, Eq)]
 pub enum Operation {
@@ -33,7 +35,7 @@ const OPERATIONS: [(Operation, &str, &[usize]); 11] = [
 ];
 
 /// Limits that calls must have met, those of boards in accepted dealings.
-const LIMITS: [&str; 21] = [
+const LIMITS: [&str; 27] = [
     "2 players",
     "3 players",
     "4 players",
@@ -55,6 +57,12 @@ const LIMITS: [&str; 21] = [
     "output exact",
     "output longer",
     "empty output accepted",
+    "start within a block",
+    "start at a later block",
+    "start at the longest row's end",
+    "end at the longest row's end",
+    "end one byte past it",
+    "end past 64 bits",
 ];
 
 /// Accepted, and every refusal. 8 is given no more.
@@ -83,6 +91,8 @@ pub struct Tally {
     not_held: u64,
     limits: [u64; LIMITS.len()],
     places: [[u64; PLACES.len()]; PLACED],
+    /// Cells in two blocks of their row that were opened alone, by the bytes of a value.
+    in_two_blocks: [u64; MOST_VALUE_WIDTH as usize + 1],
 }
 
 impl Operation {
@@ -93,7 +103,13 @@ impl Operation {
 
 impl Tally {
     pub fn new() -> Tally {
-        Tally { numbers: [[0; NUMBERS]; OPERATIONS.len()], not_held: 0, limits: [0; LIMITS.len()], places: [[0; PLACES.len()]; PLACED] }
+        Tally {
+            numbers: [[0; NUMBERS]; OPERATIONS.len()],
+            not_held: 0,
+            limits: [0; LIMITS.len()],
+            places: [[0; PLACES.len()]; PLACED],
+            in_two_blocks: [0; MOST_VALUE_WIDTH as usize + 1],
+        }
     }
 
     /// How many calls were made.
@@ -149,6 +165,24 @@ impl Tally {
         }
     }
 
+    /// A position that Open one opened.
+    pub fn cell(&mut self, board: &Board, position: u32) {
+        self.in_two_blocks[board.value_width] += u64::from(in_two_blocks(board, position as usize));
+    }
+
+    /// Bytes of a row that were asked of Expand, and the number that it gave.
+    pub fn stretch(&mut self, start: u64, length: u64, number: u32) {
+        let (block, most) = (BLOCK_BYTES as u64, MOST_ROW_BYTES as u64);
+        let end = start.checked_add(length);
+        let written = number == 0 && length > 0;
+        self.limit("start within a block", written && start % block != 0);
+        self.limit("start at a later block", written && start > 0 && start % block == 0);
+        self.limit("start at the longest row's end", number == 0 && start == most);
+        self.limit("end at the longest row's end", written && start > 0 && end == Some(most));
+        self.limit("end one byte past it", number == 16 && start > 0 && end == Some(most + 1));
+        self.limit("end past 64 bits", number == 16 && end.is_none());
+    }
+
     pub fn input(&mut self, length: usize) {
         self.limit("empty input", length == 0);
     }
@@ -192,6 +226,9 @@ impl Tally {
             let places: Vec<String> = PLACES.iter().zip(calls).map(|(place, calls)| format!("{place}: {calls}")).collect();
             println!("deal's {number} in: {}", places.join(", "));
         }
+        let met = |width: usize| format!("{width}: {}", self.in_two_blocks[width]);
+        let cells: Vec<String> = widths_in_two_blocks().map(met).collect();
+        println!("open one's cells in two blocks, by value bytes: {}", cells.join(", "));
     }
 
     fn refused(&self, number: usize) -> u64 {
@@ -225,6 +262,14 @@ impl Tally {
                 }
             }
         }
+        for width in widths_in_two_blocks().filter(|&width| self.in_two_blocks[width] == 0) {
+            faults.push(format!("never met: a cell of {width} bytes in two blocks, opened alone"));
+        }
         faults
     }
+}
+
+/// The bytes of values that do not divide a block: some of their cells lie in two, where a row is longer than one.
+fn widths_in_two_blocks() -> impl Iterator<Item = usize> {
+    (1..=MOST_VALUE_WIDTH as usize).filter(|width| BLOCK_BYTES % width != 0)
 }

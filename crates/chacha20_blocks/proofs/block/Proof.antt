@@ -1,6 +1,6 @@
 -- `chacha20_blocks::block` meets its contract. The initial state, the rounds, the sums, their bytes. Assumes nothing.
 use borrow.Author.Needs.{needs}
-use Rattle.chacha20_blocks.proofs.Written.{four-steps}
+use Rattle.chacha20_blocks.proofs.OneBlock.{four-steps}
 use Rattle.chacha20_blocks.proofs.block.Statement.{statement}
 use Rattle.chacha20_blocks.proofs.block.Tie as tie
 

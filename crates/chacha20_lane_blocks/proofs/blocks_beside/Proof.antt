@@ -1,4 +1,4 @@
--- `chacha20_lanes::blocks_beside` meets its contract. The rounds, the sums, and their bytes. Assumes nothing.
+-- `chacha20_lane_blocks::blocks_beside` meets its contract. The rounds, the sums, and their bytes. Assumes nothing.
 use borrow.Author.Needs.{needs}
 use native.Mathlib.Omega.{arith}
 use Rattle.chacha20_lanes.proofs.Laid.{blocks-laid}

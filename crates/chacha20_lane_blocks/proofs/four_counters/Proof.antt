@@ -1,4 +1,4 @@
--- `chacha20_lanes::four_counters` meets its contract. Four states of one seed, and their blocks. Assumes nothing.
+-- `chacha20_lane_blocks::four_counters` meets its contract. Four states of one seed, and their blocks. Assumes nothing.
 use borrow.Author.Needs.{needs}
 use denote.Ref.{now}
 use Rattle.chacha20_lanes.proofs.Laid.{four-counters}

@@ -1,4 +1,4 @@
--- `chacha20_lanes::four_seeds` meets its contract. Four states, one of each seed, and their blocks. Assumes nothing.
+-- `chacha20_lane_blocks::four_seeds` meets its contract. Four states, one of each seed, and their blocks. Assumes nothing.
 use borrow.Author.Needs.{needs}
 use denote.Ref.{now}
 use Rattle.chacha20_lanes.proofs.Laid.{four-seeds}
@@ -18,7 +18,9 @@ same-length : tie.Need-same-length
 same-length c = search needs
 
 returns : tie.Need-returns
-returns c = four-seeds (now (c .before .before .before .before .before .before .before .before .before .args .seeds)) _ _ (c .before .before .before .before .before .open-seeds .ensures) (c .before .before .blocks-beside .ensures)
+returns c =
+    let a = c .before .before .before .before .before .before .before .before .before .args in
+    four-seeds (a .counter) (now (a .seeds)) _ _ (c .before .before .before .before .before .open-seeds .ensures) (c .before .before .blocks-beside .ensures)
 
 pub four-seeds-spec : {M : Type 1} → statement M
 four-seeds-spec =

@@ -1,4 +1,4 @@
--- `chacha20_lanes::open_seeds` meets its contract. The loop's invariant: the lanes before l have their states, the others are as they were. Assumes nothing.
+-- `chacha20_lane_blocks::open_seeds` meets its contract. The loop's invariant: the lanes before l have their states, the others are as they were. Assumes nothing.
 use mathlib.Core.Path.{refl, sym, _∙_}
 use Prim.Native.Nat.{_≤_, _*_, _-_}
 use native.Mathlib.Omega.{arith}
@@ -12,10 +12,10 @@ use Rattle.chacha20_lane_blocks.proofs.open_seeds.Statement.{statement}
 use Rattle.chacha20_lane_blocks.proofs.open_seeds.Tie as tie
 
 abbrev Inv-loop : tie.InvT-loop
-Inv-loop seeds states₀ nonce l₀ states l = (l ≤ 4) × Done (λ m. seed-state (take 32 (drop (32 * m) seeds)) 0) l states₀ states
+Inv-loop seeds counter states₀ nonce l₀ states l = (l ≤ 4) × Done (λ m. seed-state (take 32 (drop (32 * m) seeds)) counter) l states₀ states
 
 abbrev μ-loop : tie.MeasureT-loop
-μ-loop seeds states₀ nonce l₀ states l = 4 - l
+μ-loop seeds counter states₀ nonce l₀ states l = 4 - l
 
 loop-holds : tie.Need-loop-holds Inv-loop μ-loop
 loop-holds c = (omega arith, none-done _ _ (c .before .before .pre .1))
@@ -56,8 +56,8 @@ loop-again c =
     let l = c .before .before .before .before .before .before .before .before .loop in
     let a = c .before .before .before .before .before .before .before .before .before .before .before .args in
     let seeds = now (a .seeds) in
-    let opened = seed-opened seeds (l .l) _ (c .before .before .before .before .initial-state .ensures) in
-    (omega arith, one-done (λ m. seed-state (take 32 (drop (32 * m) seeds)) 0) (l .l) (now (a .states)) (l .states) (l .inv .1) _ (c .before .before .put-lane .last .0) (omega arith) opened (c .before .before .put-lane .ensures))
+    let opened = seed-opened seeds (l .l) (a .counter) _ (c .before .before .before .before .initial-state .ensures) in
+    (omega arith, one-done (λ m. seed-state (take 32 (drop (32 * m) seeds)) (a .counter)) (l .l) (now (a .states)) (l .states) (l .inv .1) _ (c .before .before .put-lane .last .0) (omega arith) opened (c .before .before .put-lane .ensures))
 
 same-length : tie.Need-same-length Inv-loop μ-loop
 same-length c = c .before .loop .inv .1 .long ∙ sym (c .before .before .before .before .pre .1)
@@ -66,7 +66,7 @@ returns : tie.Need-returns Inv-loop μ-loop
 returns c =
     let l = c .before .loop in
     let a = c .before .before .before .before .args in
-    all-done (λ m. seed-state (take 32 (drop (32 * m) (now (a .seeds)))) 0) (l .l) (now (a .states)) (l .states) (l .inv .1) (omega arith)
+    all-done (λ m. seed-state (take 32 (drop (32 * m) (now (a .seeds)))) (a .counter)) (l .l) (now (a .states)) (l .states) (l .inv .1) (omega arith)
 
 pub open-seeds-spec : {M : Type 1} → statement M
 open-seeds-spec =

@@ -1,4 +1,4 @@
--- `chacha20_lanes::serialize` meets its contract. The loop's invariant: the lanes before l are written, the rest is as it was lent. Assumes nothing.
+-- `chacha20_lane_blocks::serialize` meets its contract. The loop's invariant: the lanes before l are written, the rest is as it was lent. Assumes nothing.
 use borrow.Author.Needs.{needs}
 use mathlib.Core.Path.{_≡_, refl, _∙_, ap}
 use mathlib.Core.List.{List, _++_}

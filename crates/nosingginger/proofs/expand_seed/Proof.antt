@@ -5,18 +5,24 @@ use borrow.Author.Needs.{needs}
 use Rattle.nosingginger.proofs.expand_seed.Statement.{statement}
 use Rattle.nosingginger.proofs.expand_seed.Tie as tie
 
--- what is expanded is a seed
-returns-3 : tie.Need-returns-3
-returns-3 c =
+-- what is expanded is a seed, within the longest row
+returns-4 : tie.Need-returns-4
+returns-4 c =
     let a = c .before .before in
     let asked = a .before .before in
-    expanded _ _ _ (omega (arith, asked .before .if1)) (omega (arith, asked .if2)) (a .expand .ensures)
+    expanded _ _ _ _ (a .expand .ensures) (omega (arith, asked .before .before .if1)) (omega (arith, asked .before .if2, asked .if3)) (omega arith)
 
 returns : tie.Need-returns
-returns c = expand-seed-refused _ _ (omega (arith, c .if1))
+returns c = expand-seed-refused _ _ _ (omega (arith, c .if1))
 
 returns-2 : tie.Need-returns-2
-returns-2 c = expand-room-refused _ _ (c .before .if1 .left) (c .if2 .taken)
+returns-2 c = expand-room-refused _ _ _ (c .before .if1 .left) (omega (arith, c .if2 .taken))
+
+returns-3 : tie.Need-returns-3
+returns-3 c = expand-room-refused _ _ _ (c .before .before .if1 .left) (omega (arith, c .before .if2 .left, c .if3 .taken))
+
+sub-if3 : tie.Need-sub-if3
+sub-if3 c = search needs
 
 expand-requires : tie.Need-expand-requires
 expand-requires c κs = search needs
@@ -25,4 +31,4 @@ same-length : tie.Need-same-length
 same-length c = search needs
 
 pub expand-seed-spec : {M : Type 1} → statement M
-expand-seed-spec = tie.close (tie.spec returns returns-2 expand-requires same-length returns-3)
+expand-seed-spec = tie.close (tie.spec returns returns-2 sub-if3 returns-3 expand-requires same-length returns-4)

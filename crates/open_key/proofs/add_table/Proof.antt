@@ -92,16 +92,16 @@ loop-again c =
     let b = its-board s in
     let at = l .grid-row * m .row-length .result in
     let size = n .least .result in
-    let new = done .add-part .last .1 .1 .1 .0 in
+    let new = done .add-shares .last .1 .1 .1 .1 .0 in
     let room = part-whole at size (l .out) (end-within n) in
     let count = part-long at size in (
       omega (arith, inside (n .before), m .before .grid-rows .ensures),
-      same-len-mid at (at + size - at) (l .out) new (done .add-part .kept .1 .1 .1 .0) ∙ l .inv .1,
+      same-len-mid at (at + size - at) (l .out) new (done .add-shares .kept .1 .1 .1 .1 .0) ∙ l .inv .1,
       row-added b (rule b) (body s) (board-known s) (expansion b) (body-known m) (l .grid-row) (inside (n .before))
           (now (s .args .out)) (l .out) _ new at (at + size - at) _ (at-is (n .before))
           (count ∙ count-is b (board-known s) (l .grid-row) (inside (n .before)) _ _ size (m .row-length .ensures) (l .inv .1 ∙ out-long s) (n .least .ensures))
           (l .inv .2)
-          (p .grid-row-part .ensures) (room ∙ sym count) (done .add-part .ensures) (omega (arith, end-within n, l .inv .1)),
+          (p .grid-row-part .ensures) (room ∙ sym count) (done .add-shares .ensures) (omega (arith, end-within n, l .inv .1)),
     )
 
 grid-rows-requires : tie.Need-grid-rows-requires Inv-loop μ-loop
@@ -129,17 +129,17 @@ grid-row-part-requires : tie.Need-grid-row-part-requires Inv-loop μ-loop
 grid-row-part-requires c κs =
     let s = entry (c .before .before .before) in (s .pre .0 .board, omega (arith, inside (c .before)))
 
-sub-add-part : tie.Need-sub-add-part Inv-loop μ-loop
-sub-add-part c = omega arith
+sub-add-shares : tie.Need-sub-add-shares Inv-loop μ-loop
+sub-add-shares c = omega arith
 
-part-add-part-start : tie.Need-part-add-part-start Inv-loop μ-loop
-part-add-part-start c = omega arith
+part-add-shares-start : tie.Need-part-add-shares-start Inv-loop μ-loop
+part-add-shares-start c = omega arith
 
-part-add-part-end : tie.Need-part-add-part-end Inv-loop μ-loop
-part-add-part-end c = end-within (c .before)
+part-add-shares-end : tie.Need-part-add-shares-end Inv-loop μ-loop
+part-add-shares-end c = end-within (c .before)
 
-add-part-requires : tie.Need-add-part-requires Inv-loop μ-loop
-add-part-requires c κs =
+add-shares-requires : tie.Need-add-shares-requires Inv-loop μ-loop
+add-shares-requires c κs =
     let p = c .before in
     let n = p .before in
     let l = n .before .before .loop in
@@ -180,10 +180,10 @@ add-table-spec =
     least-requires
     add-end
     grid-row-part-requires
-    sub-add-part
-    part-add-part-start
-    part-add-part-end
-    add-part-requires
+    sub-add-shares
+    part-add-shares-start
+    part-add-shares-end
+    add-shares-requires
     add-grid-row
     loop-less
     loop-again

@@ -1,85 +1,66 @@
--- `seed_row::expand` meets its contract. The loop's invariant: whole blocks are written up to `done`, the rest is as it was lent. Assumes nothing.
-use mathlib.Core.Path.{_≡_, sym, _∙_}
-use Prim.Native.Nat.{_+_, _-_}
+-- `seed_row::expand` meets its contract. The loop's invariant: the bytes before `done` are the row's, the rest is as it was lent. Assumes nothing.
+use mathlib.Core.Path.{_≡_}
+use Prim.Native.Nat.{_-_}
 use native.Mathlib.Omega.{arith}
 use lib.ListN.{length}
 use denote.Ref.{now}
-use borrow.Rule.Slice.PartMut.{mid-len, same-len-mid}
-use Rattle.xor.specs.Xor.{zeros}
-use Rattle.chacha20.proofs.Stream.{blocks-is, expand-is}
-use Rattle.chacha20_blocks.proofs.Written.{Written, start, next-blocks, cut}
+use borrow.Rule.Slice.PartMut.{mid-len}
+use Rattle.chacha20.specs.From.{expand-from}
+use Rattle.chacha20.proofs.Stream.{word-from}
+use Rattle.seed_row.proofs.Walks.{Gone, none-gone, all-gone}
+use Rattle.seed_row.proofs.OneRow.{next-written}
 use Rattle.seed_row.proofs.expand.Statement.{statement}
 use Rattle.seed_row.proofs.expand.Tie as tie
 
 abbrev Inv-loop : tie.InvT-loop
-Inv-loop seed out₀ next₀ done₀ out next done = Written seed (zeros 12) 0 out₀ out next done
+Inv-loop seed start out₀ done₀ out done = Gone (expand-from start (length out₀) seed) out₀ out done
 
 abbrev μ-loop : tie.MeasureT-loop
-μ-loop seed out₀ next₀ done₀ out next done = length out₀ - done
+μ-loop seed start out₀ done₀ out done = length out₀ - done
 
 loop-holds : tie.Need-loop-holds Inv-loop μ-loop
-loop-holds c = start _ _ 0 _
+loop-holds c = none-gone _ _
 
-sub-loop : tie.Need-sub-loop Inv-loop μ-loop
-sub-loop c = omega arith
+loop-again : tie.Need-loop-again Inv-loop μ-loop
+loop-again c =
+    let l = c .before .before .before .before .before .before .loop in
+    let a = c .before .before .before .before .before .before .before .before .before .args in
+    let put = c .before .before .put-stretch in
+    let end = c .before .before .before .before .next-end .result in
+    next-written (now (a .seed)) (now (a .out)) (l .out) (a .start) (l .done) (l .inv) end (put .last .1 .1 .0) (omega arith) (omega arith) (put .kept .1 .1 .0) (put .ensures)
 
-add-end : tie.Need-add-end Inv-loop μ-loop
-add-end c = omega arith
+returns : tie.Need-returns Inv-loop μ-loop
+returns c =
+    let l = c .before .loop in
+    let a = c .before .before .before .before .args in
+    all-gone _ (now (a .out)) (l .out) (l .done) (word-from (a .start) (length (now (a .out))) (now (a .seed)) .long) (l .inv) (omega arith)
 
-sub-four-counters : tie.Need-sub-four-counters Inv-loop μ-loop
-sub-four-counters c = omega arith
+add-at : tie.Need-add-at Inv-loop μ-loop
+add-at c = omega arith
 
-part-four-counters-start : tie.Need-part-four-counters-start Inv-loop μ-loop
-part-four-counters-start c = omega arith
+next-end-requires : tie.Need-next-end-requires Inv-loop μ-loop
+next-end-requires c κs = (omega arith, omega arith, omega arith, omega arith)
 
-part-four-counters-end : tie.Need-part-four-counters-end Inv-loop μ-loop
-part-four-counters-end c = omega arith
+sub-put-stretch : tie.Need-sub-put-stretch Inv-loop μ-loop
+sub-put-stretch c = omega arith
 
-four-counters-requires : tie.Need-four-counters-requires Inv-loop μ-loop
-four-counters-requires c κs =
-    let l = c .before .before .loop in
-    let long : l .done + 256 - l .done ≡ 256 = omega arith in
-    (c .before .before .before .before .before .pre .0, omega arith, mid-len (l .done) (l .done + 256) (l .out) (omega arith) ∙ long)
+part-put-stretch-start : tie.Need-part-put-stretch-start Inv-loop μ-loop
+part-put-stretch-start c = omega arith
 
-add-next : tie.Need-add-next Inv-loop μ-loop
-add-next c = omega arith
+part-put-stretch-end : tie.Need-part-put-stretch-end Inv-loop μ-loop
+part-put-stretch-end c = omega arith
+
+put-stretch-requires : tie.Need-put-stretch-requires Inv-loop μ-loop
+put-stretch-requires c κs =
+    let l = c .before .before .before .loop in
+    let part = mid-len (l .done) (c .before .next-end .result) (l .out) (omega arith) in
+    (c .before .before .before .before .before .before .pre .0, omega arith, omega (arith, part))
 
 loop-less : tie.Need-loop-less Inv-loop μ-loop
 loop-less c = omega arith
 
-loop-again : tie.Need-loop-again Inv-loop μ-loop
-loop-again c =
-    let l = c .before .before .before .before .before .loop in
-    let a = c .before .before .before .before .before .before .before .before .args in
-    let put = c .before .before .four-counters in
-    next-blocks (now (a .seed)) (zeros 12) 0 (now (a .out)) (l .out) (l .next) (l .done) (l .inv) 4 _ _ (put .last .1 .1 .0) (omega arith) (omega arith) (omega arith) (put .kept .1 .1 .0) (put .ensures ∙ blocks-is 4 (l .next) (now (a .seed)))
-
-sub-put-rest : tie.Need-sub-put-rest Inv-loop μ-loop
-sub-put-rest c = omega arith
-
-part-put-rest-start : tie.Need-part-put-rest-start Inv-loop μ-loop
-part-put-rest-start c = omega arith
-
-part-put-rest-end : tie.Need-part-put-rest-end Inv-loop μ-loop
-part-put-rest-end c = omega arith
-
-put-rest-requires : tie.Need-put-rest-requires Inv-loop μ-loop
-put-rest-requires c κs =
-    let l = c .before .before .loop in
-    (c .before .before .before .before .before .pre .0, omega arith, omega (arith, mid-len (l .done) (length (l .out)) (l .out) (omega arith)))
-
 same-length : tie.Need-same-length Inv-loop μ-loop
-same-length c =
-    let l = c .before .before .before .before .before .loop in
-    let put = c .before .before .put-rest in
-    same-len-mid (l .done) (length (l .out) - l .done) (l .out) (put .last .1 .1 .0) (put .kept .1 .1 .0) ∙ l .inv .same
-
-returns : tie.Need-returns Inv-loop μ-loop
-returns c =
-    let l = c .before .before .before .before .before .loop in
-    let a = c .before .before .before .before .before .before .before .before .args in
-    let put = c .before .before .put-rest in
-    cut (now (a .seed)) (zeros 12) 0 (now (a .out)) (l .out) (l .next) (l .done) (l .inv) (put .last .1 .1 .0) (omega arith) (put .ensures) ∙ sym (expand-is (length (now (a .out))) (now (a .seed)))
+same-length c = c .before .loop .inv .same
 
 pub expand-spec : {M : Type 1} → statement M
 expand-spec =
@@ -88,18 +69,13 @@ expand-spec =
     Inv-loop
     μ-loop
     loop-holds
-    sub-loop
-    add-end
-    sub-four-counters
-    part-four-counters-start
-    part-four-counters-end
-    four-counters-requires
-    add-next
+    add-at
+    next-end-requires
+    sub-put-stretch
+    part-put-stretch-start
+    part-put-stretch-end
+    put-stretch-requires
     loop-less
     loop-again
-    sub-put-rest
-    part-put-rest-start
-    part-put-rest-end
-    put-rest-requires
     same-length
     returns)

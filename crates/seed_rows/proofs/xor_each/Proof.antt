@@ -13,16 +13,16 @@ use Rattle.seed_rows.proofs.xor_each.Statement.{statement}
 use Rattle.seed_rows.proofs.xor_each.Tie as tie
 
 abbrev Inv-loop : tie.InvT-loop
-Inv-loop seeds out₀ count seed₀ out seed = (seed ≤ count) × (length out ≡ length out₀) × (out ≡ xors out₀ (rows-joined seed (length out₀) seeds))
+Inv-loop seeds start out₀ count seed₀ out seed = (seed ≤ count) × (length out ≡ length out₀) × (out ≡ xors out₀ (rows-joined seed start (length out₀) seeds))
 
 abbrev μ-loop : tie.MeasureT-loop
-μ-loop seeds out₀ count seed₀ out seed = count - seed
+μ-loop seeds start out₀ count seed₀ out seed = count - seed
 
 loop-holds : tie.Need-loop-holds Inv-loop μ-loop
 loop-holds c =
     let a = c .before .before .args in
     let out = now (a .out) in
-    (omega arith, refl, rows-start (length out) (now (a .seeds)) out refl (good-by-entries out (λ i within. c .slice-known .given i .fits)))
+    (omega arith, refl, rows-start (a .start) (length out) (now (a .seeds)) out refl (good-by-entries out (λ i within. c .slice-known .given i .fits)))
 
 loop-again : tie.Need-loop-again Inv-loop μ-loop
 loop-again c =
@@ -30,8 +30,8 @@ loop-again c =
     let a = c .before .before .before .before .before .before .before .before .before .args in
     let n = length (now (a .out)) in
     let put = c .before .before .xor-row in
-    let row = row-is (length (l .out)) n (32 * l .seed) (now (a .seeds)) (l .inv .1) in
-    (omega arith, put .kept .1 .0 ∙ l .inv .1, rows-turn (l .seed) n (now (a .seeds)) (now (a .out)) (l .inv .2) row (put .ensures))
+    let row = row-is (a .start) (length (l .out)) n (32 * l .seed) (now (a .seeds)) (l .inv .1) in
+    (omega arith, put .kept .1 .1 .0 ∙ l .inv .1, rows-turn (l .seed) (a .start) n (now (a .seeds)) (now (a .out)) (l .inv .2) row (put .ensures))
 
 mul-from : tie.Need-mul-from Inv-loop μ-loop
 mul-from c = omega arith
@@ -65,7 +65,7 @@ returns c =
     let l = c .before .loop in
     let a = c .before .before .before .before .args in
     let all : l .seed ≡ length (now (a .seeds)) / 32 = omega arith in
-    subst (λ (k : ℕ). l .out ≡ xors (now (a .out)) (rows-joined k (length (now (a .out))) (now (a .seeds)))) all (l .inv .2)
+    subst (λ (k : ℕ). l .out ≡ xors (now (a .out)) (rows-joined k (a .start) (length (now (a .out))) (now (a .seeds)))) all (l .inv .2)
 
 pub xor-each-spec : {M : Type 1} → statement M
 xor-each-spec =

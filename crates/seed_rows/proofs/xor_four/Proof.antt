@@ -1,81 +1,70 @@
--- `seed_rows::xor_four` meets its contract. The loop's invariant: the rows of the seeds before this one are XORed in. Assumes nothing.
-use borrow.Author.Needs.{needs}
-use mathlib.Core.Path.{_≡_, refl, _∙_, subst}
-use Prim.Native.Nat.{ℕ, _+_, _*_, _-_, _≤_}
+-- `seed_rows::xor_four` meets its contract. The loop's invariant: into the bytes before `done` the rows' are XORed, the rest is as it was. Assumes nothing.
+use mathlib.Core.Path.{_≡_, refl, _∙_}
+use Prim.Native.Nat.{_-_}
 use native.Mathlib.Omega.{arith}
 use lib.ListN.{length}
 use denote.Ref.{now}
-use Rattle.xor.specs.Xor.{xors}
-use Rattle.xor.proofs.Laws.{good-by-entries}
-use Rattle.seed_rows.specs.Rows.{rows-joined}
 use borrow.Rule.Slice.PartMut.{mid-len}
-use Rattle.seed_rows.proofs.Joined.{rows-start, rows-turn}
-use Rattle.seed_rows.proofs.Fours.{row-of-four}
+use Rattle.xor.specs.Xor.{xors}
+use Rattle.seed_row.proofs.Walks.{Gone, none-gone, all-gone}
+use Rattle.seed_rows.specs.Rows.{rows-joined}
+use Rattle.seed_rows.proofs.Fours.{rows-long, next-joined}
 use Rattle.seed_rows.proofs.xor_four.Statement.{statement}
 use Rattle.seed_rows.proofs.xor_four.Tie as tie
 
 abbrev Inv-loop : tie.InvT-loop
-Inv-loop seeds made out₀ lane₀ out lane = (lane ≤ 4) × (length out ≡ length out₀) × (out ≡ xors out₀ (rows-joined lane (length out₀) seeds))
+Inv-loop seeds start made₀ out₀ done₀ made out done = (length made ≡ 256) × Gone (xors out₀ (rows-joined 4 start (length out₀) seeds)) out₀ out done
 
 abbrev μ-loop : tie.MeasureT-loop
-μ-loop seeds made out₀ lane₀ out lane = 4 - lane
-
-four-seeds-requires : tie.Need-four-seeds-requires Inv-loop μ-loop
-four-seeds-requires c κs = search needs
+μ-loop seeds start made₀ out₀ done₀ made out done = length out₀ - done
 
 loop-holds : tie.Need-loop-holds Inv-loop μ-loop
-loop-holds c =
-    let a = c .before .before .before .before .before .before .before .args in
-    let out = now (a .out) in
-    (omega arith, refl, rows-start (length out) (now (a .seeds)) out refl (good-by-entries out (λ i within. c .before .before .before .before .slice-known2 .given i .fits)))
-
-mul-from : tie.Need-mul-from Inv-loop μ-loop
-mul-from c = omega arith
-
-add-end : tie.Need-add-end Inv-loop μ-loop
-add-end c = omega arith
-
-sub-xor-front : tie.Need-sub-xor-front Inv-loop μ-loop
-sub-xor-front c = omega arith
-
-part-xor-front-start : tie.Need-part-xor-front-start Inv-loop μ-loop
-part-xor-front-start c = omega arith
-
-part-xor-front-end : tie.Need-part-xor-front-end Inv-loop μ-loop
-part-xor-front-end c = omega arith
-
-xor-front-requires : tie.Need-xor-front-requires Inv-loop μ-loop
-xor-front-requires c κs =
-    let l = c .before .before .before .before .loop in
-    omega (arith, mid-len (64 * l .lane) (64 * l .lane + 64) (c .before .before .before .before .before .before .before .four-seeds .last .1 .0) (omega arith))
-
-add-lane : tie.Need-add-lane Inv-loop μ-loop
-add-lane c = omega arith
-
-loop-less : tie.Need-loop-less Inv-loop μ-loop
-loop-less c = omega arith
+loop-holds c = (c .before .before .before .pre .2, none-gone _ _)
 
 loop-again : tie.Need-loop-again Inv-loop μ-loop
 loop-again c =
-    let l = c .before .before .before .before .before .before .before .loop in
-    let a = c .before .before .before .before .before .before .before .before .before .before .before .before .before .before .before .args in
-    let n = length (now (a .out)) in
-    let put = c .before .before .xor-front in
-    let made = c .before .before .before .before .before .before .before .before .before .before .four-seeds in
-    (omega arith, put .kept .1 .0 ∙ l .inv .1, rows-turn (l .lane) n (now (a .seeds)) (now (a .out)) (l .inv .2) (row-of-four (l .lane) (length (l .out)) n (now (a .seeds)) (made .last .1 .0) (omega arith) (omega arith) (l .inv .1) (made .ensures)) (put .ensures))
-
-same-length : tie.Need-same-length Inv-loop μ-loop
-same-length c = c .before .before .before .before .four-seeds .kept .1 .0
-
-same-length-2 : tie.Need-same-length-2 Inv-loop μ-loop
-same-length-2 c = c .before .loop .inv .1
+    let l = c .before .before .before .before .before .before .before .before .before .loop in
+    let a = c .before .before .before .before .before .before .before .before .before .before .before .before .before .args in
+    let put = c .before .before .before .before .xor-four-blocks in
+    let end = c .before .before .before .before .before .before .before .next-end .result in
+    let on = next-joined (now (a .seeds)) (now (a .out)) (l .out) (a .start) (l .done) (l .inv .1) end (put .last .1 .1 .1 .0) in
+    (put .kept .1 .1 .0 ∙ l .inv .0, on (omega arith) (omega arith) (put .kept .1 .1 .1 .0) (put .ensures))
 
 returns : tie.Need-returns Inv-loop μ-loop
 returns c =
     let l = c .before .loop in
-    let a = c .before .before .before .before .before .before .before .before .before .args in
-    let all : l .lane ≡ 4 = omega arith in
-    subst (λ (k : ℕ). l .out ≡ xors (now (a .out)) (rows-joined k (length (now (a .out))) (now (a .seeds)))) all (l .inv .2)
+    let a = c .before .before .before .before .before .args in
+    all-gone _ (now (a .out)) (l .out) (l .done) (rows-long (now (a .seeds)) (now (a .out)) (l .out) (a .start) (l .done)) (l .inv .1) (omega arith)
+
+add-at : tie.Need-add-at Inv-loop μ-loop
+add-at c = omega arith
+
+next-end-requires : tie.Need-next-end-requires Inv-loop μ-loop
+next-end-requires c κs = (omega arith, omega arith, omega arith, omega arith)
+
+sub-xor-four-blocks : tie.Need-sub-xor-four-blocks Inv-loop μ-loop
+sub-xor-four-blocks c = omega arith
+
+part-xor-four-blocks-start : tie.Need-part-xor-four-blocks-start Inv-loop μ-loop
+part-xor-four-blocks-start c = omega arith
+
+part-xor-four-blocks-end : tie.Need-part-xor-four-blocks-end Inv-loop μ-loop
+part-xor-four-blocks-end c = omega arith
+
+xor-four-blocks-requires : tie.Need-xor-four-blocks-requires Inv-loop μ-loop
+xor-four-blocks-requires c κs =
+    let l = c .before .before .before .before .loop in
+    let part = mid-len (l .done) (c .before .before .next-end .result) (l .out) (omega arith) in
+    (c .before .before .before .before .before .before .before .before .pre .0, omega arith, l .inv .0, omega (arith, part))
+
+loop-less : tie.Need-loop-less Inv-loop μ-loop
+loop-less c = omega arith
+
+same-length : tie.Need-same-length Inv-loop μ-loop
+same-length c = omega (arith, c .before .loop .inv .0, c .before .before .before .before .before .pre .2)
+
+same-length-2 : tie.Need-same-length-2 Inv-loop μ-loop
+same-length-2 c = c .before .loop .inv .1 .same
 
 pub xor-four-spec : {M : Type 1} → statement M
 xor-four-spec =
@@ -83,15 +72,13 @@ xor-four-spec =
     (tie.spec
     Inv-loop
     μ-loop
-    four-seeds-requires
     loop-holds
-    mul-from
-    add-end
-    sub-xor-front
-    part-xor-front-start
-    part-xor-front-end
-    xor-front-requires
-    add-lane
+    add-at
+    next-end-requires
+    sub-xor-four-blocks
+    part-xor-four-blocks-start
+    part-xor-four-blocks-end
+    xor-four-blocks-requires
     loop-less
     loop-again
     same-length

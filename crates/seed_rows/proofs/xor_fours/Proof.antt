@@ -14,22 +14,22 @@ use Rattle.seed_rows.proofs.xor_fours.Statement.{statement}
 use Rattle.seed_rows.proofs.xor_fours.Tie as tie
 
 abbrev Inv-loop : tie.InvT-loop
-Inv-loop seeds out₀ taken₀ count made₀ out taken made = (taken ≤ count) × (length out ≡ length out₀) × (length made ≡ 256) × (out ≡ xors out₀ (rows-joined taken (length out₀) seeds))
+Inv-loop seeds start out₀ taken₀ count made₀ out taken made = (taken ≤ count) × (length out ≡ length out₀) × (length made ≡ 256) × (out ≡ xors out₀ (rows-joined taken start (length out₀) seeds))
 
 abbrev μ-loop : tie.MeasureT-loop
-μ-loop seeds out₀ taken₀ count made₀ out taken made = count - taken
+μ-loop seeds start out₀ taken₀ count made₀ out taken made = count - taken
 
 returns : tie.Need-returns Inv-loop μ-loop
 returns c =
     let a = c .before .before .before .args in
     let out = now (a .out) in
-    (omega arith, rows-start (length out) (now (a .seeds)) out refl (good-by-entries out (λ i within. c .before .slice-known .given i .fits)))
+    (omega arith, rows-start (a .start) (length out) (now (a .seeds)) out refl (good-by-entries out (λ i within. c .before .slice-known .given i .fits)))
 
 loop-holds : tie.Need-loop-holds Inv-loop μ-loop
 loop-holds c =
     let a = c .before .before .before .args in
     let out = now (a .out) in
-    (omega arith, refl, search needs, rows-start (length out) (now (a .seeds)) out refl (good-by-entries out (λ i within. c .before .slice-known .given i .fits)))
+    (omega arith, refl, search needs, rows-start (a .start) (length out) (now (a .seeds)) out refl (good-by-entries out (λ i within. c .before .slice-known .given i .fits)))
 
 loop-again : tie.Need-loop-again Inv-loop μ-loop
 loop-again c =
@@ -37,8 +37,11 @@ loop-again c =
     let a = c .before .before .before .before .before .before .before .before .before .before .before .before .args in
     let n = length (now (a .out)) in
     let put = c .before .before .before .xor-four in
-    let more = four-more (now (a .seeds)) (l .taken) n (now (a .out)) (length (l .out)) _ (l .inv .1) (l .inv .3) (put .ensures) in
-    (omega arith, put .kept .1 .1 .0 ∙ l .inv .1, put .kept .1 .0 ∙ l .inv .2, more (omega arith))
+    let more = four-more (now (a .seeds)) (l .taken) (a .start) n (now (a .out)) (length (l .out)) _ (l .inv .1) (l .inv .3) (put .ensures) in
+    (omega arith, put .kept .1 .1 .1 .0 ∙ l .inv .1, put .kept .1 .1 .0 ∙ l .inv .2, more (omega arith))
+
+add-if1 : tie.Need-add-if1 Inv-loop μ-loop
+add-if1 c = omega arith
 
 sub-loop : tie.Need-sub-loop Inv-loop μ-loop
 sub-loop c = omega arith
@@ -65,7 +68,7 @@ slice-aggregate-xor-four : tie.Need-slice-aggregate-xor-four Inv-loop μ-loop
 slice-aggregate-xor-four c = search needs
 
 xor-four-requires : tie.Need-xor-four-requires Inv-loop μ-loop
-xor-four-requires c κs = (four-long (now (c .before .before .before .before .before .before .before .before .args .seeds)) (c .before .before .before .before .loop .taken) (omega arith), c .before .before .before .before .loop .inv .2, omega arith)
+xor-four-requires c κs = (four-long (now (c .before .before .before .before .before .before .before .before .args .seeds)) (c .before .before .before .before .loop .taken) (omega arith), omega arith, c .before .before .before .before .loop .inv .2)
 
 add-taken : tie.Need-add-taken Inv-loop μ-loop
 add-taken c = omega arith
@@ -85,6 +88,7 @@ xor-fours-spec =
     (tie.spec
     Inv-loop
     μ-loop
+    add-if1
     returns
     loop-holds
     sub-loop
