@@ -1,8 +1,10 @@
 -- A stretch of one row, out of the blocks that hold it, and gone over part by part. Assumes nothing.
 use mathlib.Core.Path.{_≡_, refl, sym, ap, _∙_}
 use mathlib.Core.List.{List, _++_}
-use Prim.Native.Nat.{ℕ, _+_, _-_, _/_, _%_, _≤_}
+use mathlib.Core.Logic.{_⊎_, ⊎-elim}
+use Prim.Native.Nat.{ℕ, _+_, _-_, _/_, _%_, _≤_, _<_}
 use native.Mathlib.Omega.{arith}
+use native.Mathlib.Nat.{zero-add}
 use lib.ListN.{length, take, drop}
 use lib.Seq.{take-append-le, take-all}
 use borrow.Rule.Slice.PartMut.{midOf, putMid, mid-len}
@@ -14,9 +16,16 @@ use Rattle.chacha20.specs.Expand.{blocks}
 use Rattle.chacha20.specs.From.{expand-from}
 use Rattle.chacha20.specs.Rfc8439.{chacha20-block, key-stream}
 use Rattle.chacha20.proofs.Parts.{front-end}
-use Rattle.chacha20.proofs.Stream.{blocks-is, word-block, word-stream, word-from, key-stream-of, from-blocks, part-of-from}
+use Rattle.chacha20.proofs.Stream.{blocks-is, word-block, word-from, key-stream-of, from-blocks, part-of-from}
 use Rattle.chacha20_blocks.proofs.OneBlock.{key-stream-short}
 use Rattle.seed_row.proofs.Walks.{Gone, next-gone, part-xored}
+
+-- ROOM for one block or for four: one has room, and where more is wanted four have
+pub room-for-one : (n : ℕ) → (n ≡ 64) ⊎ (n ≡ 256) → 64 ≤ n
+room-for-one n = ⊎-elim (λ e. omega arith) (λ e. omega arith)
+
+pub room-for-four : (n bytes : ℕ) → (n ≡ 64) ⊎ (n ≡ 256) → bytes ≤ n → 64 < bytes → n ≡ 256
+room-for-four n bytes room fits more = ⊎-elim (λ e. let none : ⊥ = omega arith in absurd none) (λ e. e) room
 
 -- the front of four blocks
 pub front-of-four : (n c : ℕ) (seed made : List ℕ) → n ≤ 256 → made ≡ blocks 4 c seed → take n made ≡ key-stream n c seed (zeros 12)
@@ -36,13 +45,11 @@ stretch-made at n c skip end seed made c-is skip-is end-is front =
     rw (end-is, long)
     (sym (front-end skip n made) ∙ ap (λ (xs : List ℕ). drop skip xs) (rw end-is at front) ∙ rw (skip-is, c-is) (sym (from-blocks at n seed)))
 
--- four whole blocks are the stretch that begins with the first of them
-pub four-whole : (at n c : ℕ) (seed out : List ℕ) → c ≡ at / 64 → n ≡ 256 → at % 64 + n ≤ 256 → out ≡ blocks 4 c seed → out ≡ expand-from at n seed
-four-whole at n c seed out c-is n-is room is =
-    let first : at % 64 ≡ 0 = omega arith in
-    let whole : take 256 out ≡ key-stream 256 c seed (zeros 12) = front-of-four 256 c seed out (omega arith) is in
-    let long : length out ≡ 256 = rw (is, blocks-is 4 c seed) (word-stream 4 c seed (zeros 12) .long) in
-    sym (from-blocks at n seed ∙ rw (first, n-is, ← c-is) (sym whole ∙ take-all 256 out (omega (arith, long))))
+-- whole blocks are the stretch that begins with the first of them
+pub whole : (at n c : ℕ) (seed out : List ℕ) → c ≡ at / 64 → at % 64 ≡ 0 → length out ≡ n → {m : ℕ} → take m out ≡ key-stream m c seed (zeros 12) → m ≡ n →
+    out ≡ expand-from at n seed
+whole at n c seed out c-is first long front all =
+    sym (from-blocks at n seed ∙ rw (first, zero-add n, ← c-is) (sym (rw all at front) ∙ take-all n out (omega (arith, long))))
 
 -- a stretch that is written over the whole output
 pub all-put : (at : ℕ) (seed old part now : List ℕ) (r : ℕ) → Wrote 0 part r old now → part ≡ expand-from at (length old) seed → now ≡ expand-from at (length old) seed

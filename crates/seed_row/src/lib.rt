@@ -2,6 +2,7 @@
 // the stretch by the blocks that hold it, four at a time: four counters side by side, or one block by itself where one holds all that is
 // wanted. Assumes nothing.
 ghost use mathlib.Core.Path.{_≡_};
+ghost use mathlib.Core.Logic.{_⊎_};
 ghost use Prim.Native.Nat.{_+_, _-_, _%_, _^_, _<_, _≤_, min};
 ghost use lib.ListN.{length, take};
 ghost use Rattle.xor.specs.Xor.{xors, zeros};
@@ -15,8 +16,9 @@ pub const BLOCK_BYTES: usize = 64;
 const FOUR_BLOCKS_BYTES: usize = 256;
 
 // Makes blocks from that of `counter` on, so many that they have the first `bytes` bytes of the key stream there: one by itself, or four.
+// `made` is room for one or for four.
 fn make_blocks(seed: &[u8], counter: u32, bytes: usize, made: &mut [u8])
-    requires { ⌜ (length (now seed) ≡ 32) × (counter + 4 < 2 ^ 32) × (bytes ≤ 256) × (length (now made) ≡ 256) ⌝ }
+    requires { ⌜ (length (now seed) ≡ 32) × (counter + 4 < 2 ^ 32) × (bytes ≤ length (now made)) × ((length (now made) ≡ 64) ⊎ (length (now made) ≡ 256)) ⌝ }
     ensures { λ r. ⌜ take bytes (now (made .exit)) ≡ key-stream bytes counter (now (seed .entry)) (zeros 12) ⌝ }
 {
     if bytes <= BLOCK_BYTES {
@@ -66,7 +68,7 @@ pub fn xor_row(seed: &[u8], start: usize, out: &mut [u8])
     }
 }
 
-// Fills `out` with the row's bytes from byte `at` on, which four blocks have: whole blocks are written where they belong, others cut.
+// Fills `out` with the row's bytes from byte `at` on, which four blocks have. Four whole blocks, or one, are made where they belong, others cut.
 fn put_stretch(seed: &[u8], at: usize, out: &mut [u8])
     requires { ⌜ (length (now seed) ≡ 32) × (at ≤ 4096) × (at % 64 + length (now out) ≤ 256) ⌝ }
     ensures { λ r. ⌜ now (out .exit) ≡ expand-from at (length (now (out .entry))) (now (seed .entry)) ⌝ }
@@ -76,9 +78,15 @@ fn put_stretch(seed: &[u8], at: usize, out: &mut [u8])
         chacha20_lane_blocks::four_counters(seed, counter, out);
         return;
     }
-    let mut made = [0u8; 256];
     let skip = at % BLOCK_BYTES;
     let end = skip + out.len();
+    if out.len() == BLOCK_BYTES {
+        if skip == 0 {
+            make_blocks(seed, counter, BLOCK_BYTES, out);
+            return;
+        }
+    }
+    let mut made = [0u8; 256];
     make_blocks(seed, counter, end, &mut made);
     writer::put(out, 0, &made[skip..end]);
 }

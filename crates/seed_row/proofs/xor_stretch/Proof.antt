@@ -2,6 +2,7 @@
 use borrow.Author.Needs.{needs}
 use mathlib.Core.Path.{refl, ap, _∙_}
 use mathlib.Core.List.{List}
+use mathlib.Core.Logic.{inr}
 use Prim.Native.Nat.{ℕ}
 use native.Mathlib.Omega.{arith}
 use lib.ListN.{length}
@@ -25,7 +26,7 @@ cast-make-blocks : tie.Need-cast-make-blocks
 cast-make-blocks c = search needs
 
 make-blocks-requires : tie.Need-make-blocks-requires
-make-blocks-requires c κs = search needs
+make-blocks-requires c κs = let s = c .before .before .before .before in (s .pre .0, omega arith, omega (arith, s .pre .2, s .pre .3), inr (s .pre .2))
 
 sub-xor-into : tie.Need-sub-xor-into
 sub-xor-into c = search needs
