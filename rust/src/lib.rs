@@ -233,11 +233,11 @@ pub fn held_seed(key: &[u8], grid_row: u32, column: u32) -> Option<&[u8]> {
     }
 }
 
-/// **Expand**: fills the row with bytes of the seed's ChaCha20 key stream (RFC 8439, nonce zero, counter from 0), from
+/// **Expand**: fills the output with bytes of the seed's ChaCha20 key stream (RFC 8439, nonce zero, counter from 0), from
 /// its byte `start` on; 0 is the first.
 ///
 /// Refuses [`Lent`](Refusal::Lent) for a seed that has not 32 bytes, [`Expansion`](Refusal::Expansion) where start and
-/// the row's length are together above [`MOST_EXPANDED_BYTES`], whatever the start: nothing overflows.
+/// the output's length are together above [`MOST_EXPANDED_BYTES`], whatever the start: nothing overflows.
 ///
 /// ```
 /// # use nosingginger::{expand, Refusal};
@@ -250,10 +250,10 @@ pub fn held_seed(key: &[u8], grid_row: u32, column: u32) -> Option<&[u8]> {
 /// assert_eq!(expand(&[0; 32], 4_093, &mut row), Err(Refusal::Expansion));
 /// # Ok::<(), Refusal>(())
 /// ```
-pub fn expand(seed: &[u8], start: u64, row: &mut [u8]) -> Result<(), Refusal> {
+pub fn expand(seed: &[u8], start: u64, out: &mut [u8]) -> Result<(), Refusal> {
     let (seed, length) = lent(seed);
-    let (row, row_length) = lent_out(row);
-    answered(unsafe { raw::nsg_expand(seed, length, start, row, row_length) })
+    let (out, out_length) = lent_out(out);
+    answered(unsafe { raw::nsg_expand(seed, length, start, out, out_length) })
 }
 
 /// **Choose width**: the grid width that makes keys short, stopped at 256.

@@ -259,8 +259,8 @@ static void test_depends(struct board board, uint32_t point)
 
 int main(int count, char **words)
 {
-    /* Positions, width and value bytes, for every number of players. Rows of at most a block, of four, of five, of five and one more, of five
-       and four more, and the longest; three grid rows each, the last one short. */
+    /* Positions, width and value bytes, for every number of players. Rows of less than a block, of one, of two, of four
+       and of more, whole and cut, and the longest; three grid rows each, the last one short. */
     static const struct board boards[] = {{0, 11, 4, 1}, {0, 28, 12, 5}, {0, 10, 4, 16}, {0, 40, 17, 5}, {0, 41, 20, 16},
                                           {0, 150, 72, 5}, {0, 200, 90, 5}, {0, 520, 255, 1}, {0, 520, 256, 16}};
     const int depends = count == 2 && strcmp(words[1], "depends") == 0;

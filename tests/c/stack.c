@@ -38,9 +38,9 @@ static const struct {
     void (*call)(void);
 } calls[] = {{"nsg_key_length", call_key_length}, {"nsg_deal", call_deal}, {"nsg_deal, refused for a column", call_bad_deal},
              {"nsg_check_key", call_check_key}, {"nsg_open_one", call_open_one},
-             {"nsg_open_one, in two blocks", call_open_across}, {"nsg_open_all", call_open_all},
+             {"nsg_open_one, three players, a cell in two blocks", call_open_across}, {"nsg_open_all", call_open_all},
              {"nsg_join_shares", call_join_shares}, {"nsg_join_keys", call_join_keys}, {"nsg_held_seed", call_held_seed},
-             {"nsg_expand", call_expand}, {"nsg_expand, within a block", call_expand_later},
+             {"nsg_expand", call_expand}, {"nsg_expand, from within a block", call_expand_later},
              {"nsg_choose_width", call_choose_width}, {"nsg_sensor_position", call_sensor_position}};
 
 /* The bytes of the painted stack that a call changed, from the deepest of them up. The stack grows down. */
@@ -66,7 +66,7 @@ int main(void)
     draw = draw_dealing((struct board){6, 1024, 256, 16}, 1000);
     spoiled = draw_dealing(draw.board, 1000);
     spoiled.arrays.bytes[spoiled.arrays.length - 1] = spoiled.arrays.bytes[spoiled.arrays.length - 2];
-    narrow = draw_dealing((struct board){6, 1024, 256, 15}, 1000);
+    narrow = draw_dealing((struct board){3, 1024, 256, 15}, 1000);   /* two seeds held: no four to go side by side */
     length = key_length(draw.board);
     keys = dealt_keys(&draw);
     across = dealt_keys(&narrow);

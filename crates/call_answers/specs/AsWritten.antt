@@ -1,4 +1,4 @@
--- Document 03's own text of the refusals of Join shares and Choose width, which here share the ranges of a board, and of
+-- Document 03's own text: the refusals of Join shares and Choose width, which here share the ranges of a board, and
 -- Expand, which has no start there. Assumes nothing: these are definitions and one statement.
 use mathlib.Core.Path.{_≡_}
 use mathlib.Core.Bool.{_&&_, not, cond}
@@ -17,6 +17,7 @@ shares-written p w l o =
 unfoldable pub width-written : (p n : ℕ) → ℕ
 width-written p n = cond (not (leb 2 p && leb p 6)) 1 (cond (not (leb 1 n && leb n 65536)) 2 0)
 
+-- Expand, whole: 7, 16, and the first bytes of the row
 unfoldable pub Expand-written : (seed : List ℕ) → (r : ℕ) → (out out-now : List ℕ) → Type 0
 Expand-written bs r o z =
     Put-says (cond (not (eqb (length bs) 32)) 7 (cond (ltb 4096 (length o)) 16 0)) (expand (length o) bs) r o z

@@ -3,7 +3,7 @@
 -- and whose counter starts at 0. Assumes nothing.
 use mathlib.Core.Path.{_≡_, refl, sym, ap, _∙_, subst}
 use mathlib.Core.Bool.{true}
-use mathlib.Core.List.{List, [], _∷_, _++_, append-assoc}
+use mathlib.Core.List.{List, [], _∷_, _++_, append-assoc, append-nil}
 use Prim.Native.Nat.{ℕ, zero, suc, _+_, _*_, _-_, _/_, _%_, _<_, _≤_}
 use native.Mathlib.Omega.{arith}
 use native.Mathlib.Nat.{add-zero, zero-add}
@@ -83,7 +83,7 @@ word-block key nonce c =
       good = sums-good (rounds 10 start) start;
     }
 
-pub word-stream : (k c : ℕ) (key nonce : List ℕ) → Word (64 * k) (stream-blocks k c key nonce)
+word-stream : (k c : ℕ) (key nonce : List ℕ) → Word (64 * k) (stream-blocks k c key nonce)
 unfolding stream-blocks bytes-good
 word-stream zero c key nonce = record { long = refl; good = refl }
 word-stream (suc k) c key nonce =
@@ -102,7 +102,7 @@ word-expand n seed = rw (expand-is n seed) (word-key-stream n 0 seed (zeros 12))
 -- PARTS of the key stream
 
 -- some blocks and then some more
-pub stream-add : (m k c : ℕ) (key nonce : List ℕ) → stream-blocks (m + k) c key nonce ≡ stream-blocks m c key nonce ++ stream-blocks k (c + m) key nonce
+stream-add : (m k c : ℕ) (key nonce : List ℕ) → stream-blocks (m + k) c key nonce ≡ stream-blocks m c key nonce ++ stream-blocks k (c + m) key nonce
 unfolding stream-blocks
 stream-add zero k c key nonce =
     let none : zero + k ≡ k = omega arith in
@@ -122,6 +122,12 @@ key-stream-of n k c key nonce h =
     subst (λ (m : ℕ). take n (stream-blocks m c key nonce) ≡ take n (stream-blocks needed c key nonce)) enough
     (rw (stream-add needed (k - needed) c key nonce) (take-append-le n (stream-blocks needed c key nonce) (stream-blocks (k - needed) (c + needed) key nonce) long))
 
+-- at most a block of the key stream
+pub key-stream-short : (n c : ℕ) (key nonce : List ℕ) → n ≤ 64 → key-stream n c key nonce ≡ take n (chacha20-block key c nonce)
+unfolding stream-blocks
+key-stream-short n c key nonce h =
+    sym (key-stream-of n 1 c key nonce (omega arith)) ∙ ap (λ (l : List ℕ). take n l) (append-nil (chacha20-block key c nonce))
+
 -- a shorter stream begins a longer one
 pub take-key-stream : (m n c : ℕ) (key nonce : List ℕ) → m ≤ n → take m (key-stream n c key nonce) ≡ key-stream m c key nonce
 unfolding key-stream
@@ -129,7 +135,7 @@ take-key-stream m n c key nonce h =
     take-take m n (stream-blocks ((n + 63) / 64) c key nonce) h ∙ key-stream-of m ((n + 63) / 64) c key nonce (omega arith)
 
 -- some whole blocks, and then the rest of the stream
-pub key-stream-add : (k n c : ℕ) (key nonce : List ℕ) → key-stream (64 * k + n) c key nonce ≡ stream-blocks k c key nonce ++ key-stream n (c + k) key nonce
+key-stream-add : (k n c : ℕ) (key nonce : List ℕ) → key-stream (64 * k + n) c key nonce ≡ stream-blocks k c key nonce ++ key-stream n (c + k) key nonce
 unfolding key-stream
 key-stream-add k n c key nonce =
     let more = (n + 63) / 64 in

@@ -1,7 +1,8 @@
-// ChaCha20 by RFC 8439, to be held beside it: section 2.1's quarter round and 2.3's twenty rounds, under the RFC's names and in its order.
-// Crate chacha20_words makes the state that they start from and serializes the one that they end with, crate chacha20_blocks has 2.3's block function
-// and 2.4's key stream. Document 01's rows are the key stream with the seed as key, the nonce twelve zeros and the block counter from 0:
-// crate seed_row makes them. The meanings of all of it stand in specs/Expand.antt and specs/Rfc8439.antt, and specs/Lines.antt has the lines
+// ChaCha20 by RFC 8439, to be held beside it: section 2.1's quarter round and 2.3's twenty rounds, under the RFC's
+// names and in its order. Crate chacha20_words makes the state that they start from and serializes the one that they
+// end with, crate chacha20_blocks has 2.3's block function. Document 01's rows are 2.4's key stream with the seed as
+// key, the nonce twelve zeros and the block counter from 0: crate seed_row makes any stretch of them. The meanings of
+// all of it stand in specs/Expand.antt, specs/From.antt and specs/Rfc8439.antt, and specs/Lines.antt has the lines
 // that are stepped together for speed. Assumes nothing.
 ghost use mathlib.Core.Path.{_≡_};
 ghost use Prim.Native.Nat.{_<_};

@@ -1,4 +1,5 @@
-// ChaCha20's block function by RFC 8439, section 2.3, under the RFC's name. Its meaning stands in crate chacha20. Assumes nothing.
+// ChaCha20's block function by RFC 8439, section 2.3, under the RFC's name. Its meaning stands in crate chacha20.
+// Assumes nothing.
 use chacha20::twenty_rounds;
 use chacha20_words::add_into;
 use chacha20_words::initial_state;

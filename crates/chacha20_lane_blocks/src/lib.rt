@@ -1,5 +1,5 @@
-// Blocks of ChaCha20 side by side: four counters of one seed, or four seeds at one counter. The lanes are opened, go through the rounds
-// together and are serialized one after another. Assumes nothing.
+// Blocks of ChaCha20 side by side: four counters of one seed, or four seeds at one counter. The lanes are opened, go
+// through the rounds together and are serialized one after another. Assumes nothing.
 ghost use mathlib.Core.Path.{_≡_};
 ghost use Prim.Native.Nat.{_+_, _*_, _^_, _<_};
 ghost use lib.ListN.{length, take, drop};
@@ -54,7 +54,8 @@ fn open_counters(seed: &[u8], counter: u32, states: &mut [u32])
 // Four seeds at one counter.
 fn open_seeds(seeds: &[u8], counter: u32, states: &mut [u32])
     requires { ⌜ (length (now seeds) ≡ 128) × (length (now states) ≡ 64) ⌝ }
-    ensures { λ r. ⌜ Side-by-side (now (states .exit)) (λ l. seed-state (take 32 (drop (32 * l) (now (seeds .entry)))) counter) ⌝ }
+    ensures { λ r. ⌜ Side-by-side (now (states .exit))
+        (λ l. seed-state (take 32 (drop (32 * l) (now (seeds .entry)))) counter) ⌝ }
 {
     let nonce = [0u8; 12];
     let mut l: usize = 0;

@@ -110,7 +110,8 @@ module _ (ss : List ℕ) (l : ℕ) where
   seed-long long h = rw part (length-take-le 32 (drop (32 * l) ss) (omega (arith, length-drop (32 * l) ss)))
 
   -- its state
-  pub seed-opened : (c : ℕ) (words : List ℕ) → words ≡ initial-state (take (32 * l + 32 - 32 * l) (drop (32 * l) ss)) c (zeros 12) → words ≡ seed-state (take 32 (drop (32 * l) ss)) c
+  pub seed-opened : (c : ℕ) (words : List ℕ) → words ≡ initial-state (take (32 * l + 32 - 32 * l) (drop (32 * l) ss)) c (zeros 12) →
+      words ≡ seed-state (take 32 (drop (32 * l) ss)) c
   seed-opened c words is = is ∙ rw part (sym (seed-state-is (take 32 (drop (32 * l) ss)) c))
 
 blocks-at-snoc : (k c : ℕ) (ss : List ℕ) → blocks-at (suc k) c ss ≡ blocks-at k c ss ++ block (take 32 (drop (32 * k) ss)) c
@@ -121,11 +122,13 @@ blocks-at-snoc (suc k) c ss =
     ap (λ (l : List ℕ). block (take 32 ss) c ++ l) (blocks-at-snoc k c (drop 32 ss))
     ∙ rw (drop-drop (32 * k) 32 ss, place) (sym (append-assoc (block (take 32 ss) c) (blocks-at k c (drop 32 ss)) (block (take 32 (drop (32 * suc k) ss)) c)))
 
-seeds-laid : (k c : ℕ) (ss initial : List ℕ) → k ≤ 4 → Side-by-side initial (λ l. seed-state (take 32 (drop (32 * l) ss)) c) → lanes-blocks k initial ≡ blocks-at k c ss
+seeds-laid : (k c : ℕ) (ss initial : List ℕ) → k ≤ 4 → Side-by-side initial (λ l. seed-state (take 32 (drop (32 * l) ss)) c) →
+    lanes-blocks k initial ≡ blocks-at k c ss
 unfolding lanes-blocks blocks-at
 seeds-laid zero c ss initial h opened = refl
 seeds-laid (suc k) c ss initial h opened =
     rw (seeds-laid k c ss initial (omega arith) opened, opened .1 k (omega arith), block-is (take 32 (drop (32 * k) ss)) c) (sym (blocks-at-snoc k c ss))
 
-pub four-seeds : (c : ℕ) (ss initial out : List ℕ) → Side-by-side initial (λ l. seed-state (take 32 (drop (32 * l) ss)) c) → out ≡ lanes-blocks 4 initial → out ≡ blocks-at 4 c ss
+pub four-seeds : (c : ℕ) (ss initial out : List ℕ) → Side-by-side initial (λ l. seed-state (take 32 (drop (32 * l) ss)) c) → out ≡ lanes-blocks 4 initial →
+    out ≡ blocks-at 4 c ss
 four-seeds c ss initial out opened is = is ∙ seeds-laid 4 c ss initial (omega arith) opened

@@ -14,8 +14,8 @@ use Rattle.grid.specs.Grid.{Board, columns, grid-rows, row-long, row-of, piece,
 use Rattle.grid.proofs.Facts.{Board-in, cell-in, cell-fits, grid-row-in}
 use Rattle.chacha20.specs.Expand.{expand}
 use Rattle.chacha20.proofs.Stream.{word-expand, from-zero}
+use Rattle.seed_rows.proofs.Joined.{rows-of-front}
 use Rattle.seed_rows.specs.Rows.{rows-joined, rule}
-use Rattle.seed_rows.proofs.Seeds.{rows-of-front}
 use Rattle.keys.specs.Keys.{rows-from, words-from}
 use Rattle.keys.proofs.Lists.{words-at}
 use Rattle.keys.proofs.Dealing.{rows-at}
@@ -72,14 +72,16 @@ xor-rows-joined zero n ss xs w = xors-zeros-right n xs w
 xor-rows-joined (suc k) n ss xs w =
     let row = expand n (take 32 ss) in
     rw (from-zero n (take 32 ss))
-    (sym (xors-assoc xs row (rows-joined k 0 n (drop 32 ss))) ∙ xor-rows-joined k n (drop 32 ss) (xors xs row) (word-xors xs row w (word-expand n (take 32 ss))))
+    (sym (xors-assoc xs row (rows-joined k 0 n (drop 32 ss))) ∙ xor-rows-joined k n (drop 32 ss) (xors xs row)
+    (word-xors xs row w (word-expand n (take 32 ss))))
 
 -- of seeds that are cut out of all seeds
 pub cut-rows : (from k n : ℕ) (seeds xs : List ℕ) → from + 32 * k ≤ length seeds → Word n xs → let cut = take (from + 32 * k - from) (drop from seeds) in
     xors xs (rows-joined (length cut / 32) 0 n cut) ≡ xor-all (rows-from k (expand n) (drop from seeds)) xs
 cut-rows from k n seeds xs room w =
     let all : 32 * k / 32 ≡ k = omega arith in
-    rw (part-whole from (32 * k) seeds room, all, part-long from (32 * k), rows-of-front k 0 n (32 * k) (drop from seeds) (omega arith)) (xor-rows-joined k n (drop from seeds) xs w)
+    rw (part-whole from (32 * k) seeds room, all, part-long from (32 * k), rows-of-front k 0 n (32 * k) (drop from seeds) (omega arith))
+    (xor-rows-joined k n (drop from seeds) xs w)
 
 -- THE ROWS OF A GRID ROW, out of all rows
 

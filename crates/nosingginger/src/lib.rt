@@ -78,7 +78,8 @@ pub fn sensor_position(sensor: u32) -> Answer
     accepted(grid::sensor::sensor_place(sensor))
 }
 
-// EXPAND: 7, 16; fills the output with the bytes from `start` on of the seed's key stream. Nothing overflows, whatever `start` is.
+// EXPAND: 7, 16; fills the output with the bytes from `start` on of the seed's key stream. Nothing overflows,
+// whatever `start` is.
 pub fn expand_seed(seed: &[u8], start: usize, output: &mut [u8]) -> u32
     ensures { λ r. ⌜ Expand-says (now (seed .entry)) start r (now (output .entry)) (now (output .exit)) ⌝ }
 {

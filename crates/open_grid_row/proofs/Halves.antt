@@ -1,5 +1,5 @@
 -- The shares of a grid row are the XOR of the words of its marked columns and of the rows of its held seeds, whatever the order: so all rows
--- are XORed at once, and expanded only as far as they are wanted. Assumes nothing.
+-- are XORed at once, and of each only the stretch that is wanted is expanded. Assumes nothing.
 use mathlib.Core.Path.{_≡_, refl, sym, ap, _∙_}
 use mathlib.Core.Bool.{Bool, true, false, cond}
 use mathlib.Core.List.{List, [], _∷_}
@@ -13,8 +13,7 @@ use Rattle.chacha20.specs.Expand.{expand}
 use Rattle.chacha20.specs.From.{expand-from}
 use Rattle.chacha20.proofs.Stream.{from-within}
 use Rattle.seed_rows.specs.Rows.{rows-joined}
-use Rattle.seed_rows.proofs.Joined.{word-rows}
-use Rattle.seed_rows.proofs.Seeds.{rows-of-front}
+use Rattle.seed_rows.proofs.Joined.{word-rows, rows-of-front}
 use Rattle.grid.specs.Grid.{Board, columns, grid-rows, row-long}
 use Rattle.keys.specs.Keys.{mark-bytes, count-marks, stride, word-behind}
 use Rattle.keys.specs.Held.{marked}
@@ -122,7 +121,8 @@ module _ (b : Board) (ps : List ℕ) (g s n : ℕ) (within : s + n ≤ row-long 
       ∙ rw (half, first) (rw (xors-comm words held-rows) (into-zeros words))
 
   -- XORed into zeros they are as they are
-  pub shares-fresh : count-marks (columns b) 0 ps ≡ columns b / 2 → xors (zeros n) (shares b (expand (row-long b)) ps g s n) ≡ shares b (expand (row-long b)) ps g s n
+  pub shares-fresh : count-marks (columns b) 0 ps ≡ columns b / 2 →
+      xors (zeros n) (shares b (expand (row-long b)) ps g s n) ≡ shares b (expand (row-long b)) ps g s n
   shares-fresh half = rw (shares-are half) (into-zeros (grid-row-words b ps g s n))
 
 module _ (b : Board) (ps : List ℕ) (g : ℕ) (half : count-marks (columns b) 0 ps ≡ columns b / 2) (room : stride b ≤ length ps) (seeds : List ℕ)

@@ -1,6 +1,7 @@
-// The shares of one grid row, worked out of the part of an accepted key that begins at it: the XOR over the player's marked columns of word and
-// row. The held seeds of a grid row stand one after another, so that all their rows are XORed at once, and the words after them. Crate
-// opening calls it for each grid row of a table, or for one square. Assumes nothing.
+// The shares of one grid row, or any stretch of them, worked out of the part of an accepted key that begins at it: the
+// XOR over the player's marked columns of word and row. The held seeds of a grid row stand one after another, so that
+// all their rows are XORed at once, and the words after them. Crate open_key calls it for each grid row of a table, or
+// for one square. Assumes nothing.
 use grid::board::Board;
 use grid::board::SEED_BYTES;
 use key_lengths::mark_bytes;
@@ -80,7 +81,8 @@ pub fn add_shares(part: &[u8], board: Board, grid_row: usize, from: usize, out: 
         × (length (now part) ≡ (grid-rows (board-of board) - «grid_row») * stride (board-of board) + columns (board-of board) * row-long (board-of board))
         × (count-marks (columns (board-of board)) 0 (now part) ≡ columns (board-of board) / 2)
         × (from + length (now out) ≤ row-long (board-of board)) ⌝ }
-    ensures { λ r. ⌜ now (out .exit) ≡ xors (now (out .entry)) (shares (board-of board) (rule (board-of board)) (now (part .entry)) «grid_row» from (length (now (out .entry)))) ⌝ }
+    ensures { λ r. ⌜ now (out .exit) ≡ xors (now (out .entry))
+        (shares (board-of board) (rule (board-of board)) (now (part .entry)) «grid_row» from (length (now (out .entry)))) ⌝ }
 {
     xor_rows(grid_row_seeds(part, board), from, out);
     add_grid_row_words(part, board, grid_row, from, out);

@@ -33,7 +33,8 @@ prefix-long n xs h = sym (length-take-le n xs h)
 
 -- what is added to zeros is the square's share: its grid row, its place there and its length are the code's numbers
 pub square-added : (b : Board) (bs old cleared now part : List ℕ) (a g from : ℕ) → cleared ≡ zeros (length old) →
-    now ≡ xors cleared (shares b (expand (row-long b)) part g from (length cleared)) → part ≡ grid-row-part b bs g → count-marks (columns b) 0 part ≡ columns b / 2 →
+    now ≡ xors cleared (shares b (expand (row-long b)) part g from (length cleared)) → part ≡ grid-row-part b bs g →
+    count-marks (columns b) 0 part ≡ columns b / 2 →
     from + b .w ≤ row-long b → g ≡ a / b .wide → from ≡ a % b .wide * b .w → length old ≡ b .w → now ≡ square-of b (expand (row-long b)) bs a
 unfolding square-of
 square-added b bs old cleared now part a g from clear is p marks room row place long =

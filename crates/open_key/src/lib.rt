@@ -26,11 +26,13 @@ fn grid_row_part(body: &[u8], board: Board, grid_row: usize) -> &[u8]
     part_from(body, grid_row * stride(board))
 }
 
-// Fills `out`, which has a cell's length, with a square's share, worked out of the part of the key that begins at the square's grid row. Of
-// each row only the square's cell is expanded.
+// Fills `out`, which has a cell's length, with a square's share, worked out of the part of the key that begins at the
+// square's grid row. Of each row only the square's cell is expanded.
 fn fill_square(body: &[u8], board: Board, position: u32, out: &mut [u8])
-    requires { ⌜ Accepted-body (board-of board) (now body) × (position < board .positions) × (length (now out) ≡ board .«value_bytes») ⌝ }
-    ensures { λ r. ⌜ now (out .exit) ≡ square-of (board-of board) (rule (board-of board)) (now (body .entry)) position ⌝ }
+    requires { ⌜ Accepted-body (board-of board) (now body) × (position < board .positions)
+        × (length (now out) ≡ board .«value_bytes») ⌝ }
+    ensures { λ r. ⌜ now (out .exit) ≡
+        square-of (board-of board) (rule (board-of board)) (now (body .entry)) position ⌝ }
 {
     let grid_row = (position / board.width) as usize;
     let from = (position % board.width * board.value_bytes) as usize;
@@ -46,8 +48,10 @@ fn fill_square(body: &[u8], board: Board, position: u32, out: &mut [u8])
 
 // Writes a square's share.
 pub fn open_square(body: &[u8], board: Board, position: u32, out: &mut [u8])
-    requires { ⌜ Accepted-body (board-of board) (now body) × (position < board .positions) × (board .«value_bytes» ≤ length (now out)) ⌝ }
-    ensures { λ r. ⌜ now (out .exit) ≡ in-front (square-of (board-of board) (rule (board-of board)) (now (body .entry)) position) (now (out .entry)) ⌝ }
+    requires { ⌜ Accepted-body (board-of board) (now body) × (position < board .positions)
+        × (board .«value_bytes» ≤ length (now out)) ⌝ }
+    ensures { λ r. ⌜ now (out .exit) ≡ in-front
+        (square-of (board-of board) (rule (board-of board)) (now (body .entry)) position) (now (out .entry)) ⌝ }
 {
     let count = board.value_bytes as usize;
     fill_square(body, board, position, &mut out[..count]);

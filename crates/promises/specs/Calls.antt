@@ -124,7 +124,8 @@ pub record Refused-leaves : Type 0 where
   pub open-all : (key : List ℕ) (r : ℕ) (out out-now : List ℕ) → Open-all-says key r out out-now → Untouched r out out-now
   pub join-shares : (p w : ℕ) (shares : List ℕ) (r : ℕ) (out out-now : List ℕ) → Join-says p w shares r out out-now → Untouched r out out-now
   pub join-keys : (keys : List ℕ) (r : ℕ) (out out-now : List ℕ) → Join-keys-says keys r out out-now → Untouched r out out-now
-  pub expand : (seed : List ℕ) (s r : ℕ) (out out-now : List ℕ) → Expand-says seed s r out out-now → Untouched r out out-now
+  pub expand : (seed : List ℕ) (s r : ℕ) (out out-now : List ℕ) → Expand-says seed s r out out-now →
+      Untouched r out out-now
 
 -- what a call that answered 0 left past the bytes that it names
 unfoldable pub Past-kept : (named : ℕ) → (out out-now : List ℕ) → Type 0

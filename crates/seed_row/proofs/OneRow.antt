@@ -1,5 +1,5 @@
--- A stretch of one row, out of the blocks that hold it, and gone over part by part. Assumes nothing.
-use mathlib.Core.Path.{_≡_, refl, sym, ap, _∙_}
+-- A stretch of one row, out of the blocks that hold it. Assumes nothing.
+use mathlib.Core.Path.{_≡_, sym, ap, _∙_}
 use mathlib.Core.List.{List, _++_}
 use mathlib.Core.Logic.{_⊎_, ⊎-elim}
 use Prim.Native.Nat.{ℕ, _+_, _-_, _/_, _%_, _≤_, _<_}
@@ -7,18 +7,15 @@ use native.Mathlib.Omega.{arith}
 use native.Mathlib.Nat.{zero-add}
 use lib.ListN.{length, take, drop}
 use lib.Seq.{take-append-le, take-all}
-use borrow.Rule.Slice.PartMut.{midOf, putMid, mid-len}
-use Rattle.xor.specs.Xor.{xors, zeros}
-use Rattle.xor.proofs.Laws.{length-xors}
+use Rattle.xor.specs.Xor.{zeros}
 use Rattle.writer.specs.Written.{Wrote}
 use Rattle.writer.proofs.Laws.{written-front, in-front-whole}
 use Rattle.chacha20.specs.Expand.{blocks}
 use Rattle.chacha20.specs.From.{expand-from}
 use Rattle.chacha20.specs.Rfc8439.{chacha20-block, key-stream}
 use Rattle.chacha20.proofs.Parts.{front-end}
-use Rattle.chacha20.proofs.Stream.{blocks-is, word-block, word-from, key-stream-of, from-blocks, part-of-from}
-use Rattle.chacha20_blocks.proofs.OneBlock.{key-stream-short}
-use Rattle.seed_row.proofs.Walks.{Gone, next-gone, part-xored}
+use Rattle.chacha20.proofs.Stream.{blocks-is, word-block, word-from, key-stream-of, from-blocks, part-of-from, key-stream-short}
+use Rattle.seed_row.proofs.Walks.{Stretched}
 
 -- ROOM for one block or for four: one has room, and where more is wanted four have
 pub room-for-one : (n : ℕ) → (n ≡ 64) ⊎ (n ≡ 256) → 64 ≤ n
@@ -38,7 +35,8 @@ front-of-one n c seed made rest h is =
     rw is (take-append-le n (chacha20-block seed c nonce) rest (omega (arith, word-block seed nonce c .long)) ∙ sym (key-stream-short n c seed nonce h))
 
 -- what is wanted lies behind the first bytes of the blocks that are made
-pub stretch-made : (at n c skip end : ℕ) (seed made : List ℕ) → c ≡ at / 64 → skip ≡ at % 64 → end ≡ skip + n → take end made ≡ key-stream end c seed (zeros 12) →
+pub stretch-made : (at n c skip end : ℕ) (seed made : List ℕ) → c ≡ at / 64 → skip ≡ at % 64 → end ≡ skip + n →
+    take end made ≡ key-stream end c seed (zeros 12) →
     take (end - skip) (drop skip made) ≡ expand-from at n seed
 stretch-made at n c skip end seed made c-is skip-is end-is front =
     let long : skip + n - skip ≡ n = omega arith in
@@ -52,35 +50,12 @@ whole at n c seed out c-is first long front all =
     sym (from-blocks at n seed ∙ rw (first, zero-add n, ← c-is) (sym (rw all at front) ∙ take-all n out (omega (arith, long))))
 
 -- a stretch that is written over the whole output
-pub all-put : (at : ℕ) (seed old part now : List ℕ) (r : ℕ) → Wrote 0 part r old now → part ≡ expand-from at (length old) seed → now ≡ expand-from at (length old) seed
+pub all-put : (at : ℕ) (seed old part now : List ℕ) (r : ℕ) → Wrote 0 part r old now → part ≡ expand-from at (length old) seed →
+    now ≡ expand-from at (length old) seed
 all-put at seed old part now r wrote part-is =
     let long : length part ≡ length old = rw part-is (word-from at (length old) seed .long) in
     wrote .now-is ∙ written-front part old ∙ in-front-whole part old long ∙ part-is
 
-module _ (seed old out : List ℕ) (start done : ℕ) where
-  abbrev row : List ℕ
-  row = expand-from start (length old) seed
-
-  row-part : (end m had : ℕ) → done ≤ end → end ≤ length old → m ≡ end - done → had ≡ m → expand-from (start + done) had seed ≡ take m (drop done row)
-  row-part end m had on room m-is had-is = rw had-is (sym (part-of-from start (length old) done m seed (omega arith)))
-
-  pub xored-long : length (xors old row) ≡ length old
-  xored-long = length-xors old row (sym (word-from start (length old) seed .long))
-
-  -- a turn of the loop that writes
-  pub next-written : Gone row old out done → (end : ℕ) (part : List ℕ) → done ≤ end → end ≤ length out → length part ≡ length (midOf done (end - done) out) →
-      part ≡ expand-from (start + done) (length (midOf done (end - done) out)) seed → Gone row old (putMid done (end - done) out part) end
-  next-written w end part on room long is =
-      let same = w .same in
-      next-gone row old out done (word-from start (length old) seed .long) w end part on room long
-      (is ∙ row-part end (end - done) _ on (omega arith) (omega arith) (mid-len done end out room))
-
-  -- and of the loop that XORs
-  pub next-xored : Gone (xors old row) old out done → (end : ℕ) (part : List ℕ) → done ≤ end → end ≤ length out → length part ≡ length (midOf done (end - done) out) →
-      part ≡ xors (midOf done (end - done) out) (expand-from (start + done) (length (midOf done (end - done) out)) seed) →
-      Gone (xors old row) old (putMid done (end - done) out part) end
-  next-xored w end part on room long is =
-      let same = w .same in
-      next-gone (xors old row) old out done xored-long w end part on room long
-      (part-xored old row out done xored-long w (end - done) part (midOf done (end - done) out) _ refl is
-      (row-part end (end - done) _ on (omega arith) (omega arith) (mid-len done end out room)))
+-- stretches of a row
+pub of-row : (seed : List ℕ) → Stretched (λ s n. expand-from s n seed)
+of-row seed = record { long = λ s n. word-from s n seed .long; part = λ s n d m h. part-of-from s n d m seed h }

@@ -6,20 +6,16 @@ use native.Mathlib.Omega.{arith}
 use native.Mathlib.Nat.{not-suc-le-zero}
 use lib.ListN.{length, take, drop, length-drop}
 use lib.Seq.{take-at, take-all, take-take, drop-at, drop-drop, length-take-le}
-use borrow.Rule.Slice.PartMut.{midOf, putMid, mid-len}
 use Rattle.xor.specs.Xor.{xors, zeros}
-use Rattle.xor.proofs.Laws.{xors-assoc, length-xors}
+use Rattle.xor.proofs.Laws.{xors-assoc}
 use Rattle.chacha20.specs.Expand.{block}
 use Rattle.chacha20.specs.From.{expand-from}
 use Rattle.chacha20.specs.Rfc8439.{key-stream}
-use Rattle.chacha20.proofs.Stream.{block-is, word-block}
-use Rattle.chacha20_blocks.proofs.OneBlock.{key-stream-short}
+use Rattle.chacha20.proofs.Stream.{block-is, word-block, key-stream-short}
 use Rattle.chacha20_lanes.specs.Lanes.{blocks-at}
-use Rattle.seed_row.proofs.Walks.{Gone, next-gone, part-xored}
 use Rattle.seed_row.proofs.OneRow.{stretch-made}
 use Rattle.seed_rows.specs.Rows.{rows-joined}
-use Rattle.seed_rows.proofs.Joined.{word-rows, rows-add, rows-part}
-use Rattle.seed_rows.proofs.Seeds.{rows-of-front}
+use Rattle.seed_rows.proofs.Joined.{rows-add, rows-of-front}
 
 block-long : (seed : List ℕ) (c : ℕ) → length (block seed c) ≡ 64
 block-long seed c = rw (block-is seed c) (word-block seed (zeros 12) c .long)
@@ -34,7 +30,8 @@ block-at (suc k) c (suc i) ss h =
     let rest = blocks-at k c (drop 32 ss) in
     let here : 64 * suc i ≡ 64 + 64 * i = omega arith in
     let seed : 32 + 32 * i ≡ 32 * suc i = omega arith in
-    let behind : drop (64 * suc i) (first ++ rest) ≡ drop (64 * i) rest = rw here (sym (drop-drop (64 * i) 64 (first ++ rest)) ∙ ap (λ (l : List ℕ). drop (64 * i) l) (drop-at first rest 64 (block-long (take 32 ss) c))) in
+    let behind : drop (64 * suc i) (first ++ rest) ≡ drop (64 * i) rest = rw here
+    (sym (drop-drop (64 * i) 64 (first ++ rest)) ∙ ap (λ (l : List ℕ). drop (64 * i) l) (drop-at first rest 64 (block-long (take 32 ss) c))) in
     rw behind (block-at k c i (drop 32 ss) (omega arith) ∙ rw (drop-drop (32 * i) 32 ss, seed))
 
 -- what the code takes out of the four blocks is a part of a row
@@ -44,27 +41,11 @@ row-of-four i at c skip had n ss made h c-is skip-is room e is =
     let seed = take 32 (drop (32 * i) ss) in
     let part : 64 * i + skip + had - (64 * i + skip) ≡ n = omega arith in
     let one : take (skip + n) (drop (64 * i) made) ≡ key-stream (skip + n) c seed (zeros 12) =
-    sym (take-take (skip + n) 64 (drop (64 * i) made) room) ∙ rw (is, block-at 4 c i ss h, block-is seed c) (sym (key-stream-short (skip + n) c seed (zeros 12) room)) in
+    sym (take-take (skip + n) 64 (drop (64 * i) made) room) ∙ rw (is, block-at 4 c i ss h, block-is seed c)
+    (sym (key-stream-short (skip + n) c seed (zeros 12) room)) in
     let long : skip + n - skip ≡ n = omega arith in
     rw (part, ← (drop-drop skip (64 * i) made))
     (ap (λ (k : ℕ). take k (drop skip (drop (64 * i) made))) (sym long) ∙ stretch-made at n c skip (skip + n) seed (drop (64 * i) made) c-is skip-is refl one)
-
--- a turn of the loop that goes over the blocks
-module _ (ss old out : List ℕ) (start done : ℕ) where
-  abbrev rows : List ℕ
-  rows = rows-joined 4 start (length old) ss
-
-  pub rows-long : length (xors old rows) ≡ length old
-  rows-long = length-xors old rows (sym (word-rows 4 start (length old) ss .long))
-
-  pub next-joined : Gone (xors old rows) old out done → (end : ℕ) (part : List ℕ) → done ≤ end → end ≤ length out → length part ≡ length (midOf done (end - done) out) →
-      part ≡ xors (midOf done (end - done) out) (rows-joined 4 (start + done) (length (midOf done (end - done) out)) ss) → Gone (xors old rows) old (putMid done (end - done) out part) end
-  next-joined w end part on room long is =
-      let same = w .same in
-      let had = mid-len done end out room in
-      next-gone (xors old rows) old out done rows-long w end part on room long
-      (part-xored old rows out done rows-long w (end - done) part (midOf done (end - done) out) _ refl is
-      (rw had (sym (rows-part 4 start (length old) done (end - done) ss (omega arith)))))
 
 -- four seeds as the code cuts them out
 module _ (ss : List ℕ) (taken : ℕ) where
@@ -84,7 +65,8 @@ module _ (ss : List ℕ) (taken : ℕ) where
 
   -- the seeds behind those taken by fours
   pub rest-more : (s n : ℕ) (old : List ℕ) {out new : List ℕ} (had : ℕ) → had ≡ n → 32 * taken ≤ length ss → out ≡ xors old (rows-joined taken s n ss) →
-      new ≡ xors out (rows-joined (length (take (length ss - 32 * taken) (drop (32 * taken) ss)) / 32) s had (take (length ss - 32 * taken) (drop (32 * taken) ss))) →
+      new ≡ xors out (rows-joined (length (take (length ss - 32 * taken) (drop (32 * taken) ss)) / 32) s had
+      (take (length ss - 32 * taken) (drop (32 * taken) ss))) →
       new ≡ xors old (rows-joined (length ss / 32) s n ss)
   rest-more s n old {out} {new} had e h so-far is =
       let left = length-drop (32 * taken) ss in

@@ -1,3 +1,2 @@
 pub mod Joined
-pub mod Seeds
 pub mod Fours

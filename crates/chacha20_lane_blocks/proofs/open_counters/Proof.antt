@@ -1,4 +1,4 @@
--- `chacha20_lane_blocks::open_counters` meets its contract. The loop's invariant: the lanes before l have their states, the others are as they were. Assumes nothing.
+-- `chacha20_lane_blocks::open_counters` meets its contract. The invariant: the lanes before l have their states, the others are as they were. Assumes nothing.
 use mathlib.Core.Path.{_≡_, refl, sym, _∙_}
 use Prim.Native.Nat.{_≤_, _+_, _-_}
 use native.Mathlib.Omega.{arith}

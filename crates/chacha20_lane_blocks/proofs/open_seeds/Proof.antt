@@ -1,4 +1,4 @@
--- `chacha20_lane_blocks::open_seeds` meets its contract. The loop's invariant: the lanes before l have their states, the others are as they were. Assumes nothing.
+-- `chacha20_lane_blocks::open_seeds` meets its contract. The invariant: the lanes before l have their states, the others are as they were. Assumes nothing.
 use mathlib.Core.Path.{refl, sym, _∙_}
 use Prim.Native.Nat.{_≤_, _*_, _-_}
 use native.Mathlib.Omega.{arith}
@@ -56,8 +56,11 @@ loop-again c =
     let l = c .before .before .before .before .before .before .before .before .loop in
     let a = c .before .before .before .before .before .before .before .before .before .before .before .args in
     let seeds = now (a .seeds) in
-    let opened = seed-opened seeds (l .l) (a .counter) _ (c .before .before .before .before .initial-state .ensures) in
-    (omega arith, one-done (λ m. seed-state (take 32 (drop (32 * m) seeds)) (a .counter)) (l .l) (now (a .states)) (l .states) (l .inv .1) _ (c .before .before .put-lane .last .0) (omega arith) opened (c .before .before .put-lane .ensures))
+    let opened = seed-opened seeds (l .l) (a .counter) _ (c .before .before .before .before .initial-state .ensures) in (
+      omega arith,
+      one-done (λ m. seed-state (take 32 (drop (32 * m) seeds)) (a .counter)) (l .l) (now (a .states)) (l .states) (l .inv .1) _
+          (c .before .before .put-lane .last .0) (omega arith) opened (c .before .before .put-lane .ensures),
+    )
 
 same-length : tie.Need-same-length Inv-loop μ-loop
 same-length c = c .before .loop .inv .1 .long ∙ sym (c .before .before .before .before .pre .1)

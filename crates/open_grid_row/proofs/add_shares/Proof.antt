@@ -35,7 +35,9 @@ returns : tie.Need-returns
 returns c =
     let s = c .before .before .before .before .before .before .before .before .before .before .before in
     let rows = c .before .before .before .before .before .before .xor-rows in
-    shares-added (board-of (s .args .board)) (now (s .args .part)) (s .args .grid-row) (s .pre .3) (there s) _ (c .before .before .before .before .before .before .before .before .grid-row-seeds .ensures) (s .args .from) (now (s .args .out)) _ _ (rows .kept .1 .1 .0) (s .pre .4)
+    shares-added (board-of (s .args .board)) (now (s .args .part)) (s .args .grid-row) (s .pre .3) (there s) _
+    (c .before .before .before .before .before .before .before .before .grid-row-seeds .ensures) (s .args .from) (now (s .args .out)) _ _
+    (rows .kept .1 .1 .0) (s .pre .4)
     (rows .ensures) (c .before .before .add-grid-row-words .ensures)
 
 pub add-shares-spec : {M : Type 1} → statement M

@@ -1,5 +1,5 @@
 -- `open_key::fill_square` meets its contract. Assumes nothing.
-use mathlib.Core.Path.{refl, sym, _∙_}
+use mathlib.Core.Path.{refl}
 use Prim.Native.Nat.{_+_, _*_, _/_, _%_, _≤_, _<_}
 use native.Mathlib.Omega.{arith}
 use denote.Ref.{now}
@@ -50,7 +50,8 @@ returns c =
     let known = c .before .before .before .before .before .before .before .before .before .before .before .before .before in
     let s = known .before in
     square-added (its-board s) (now (s .args .body)) (now (s .args .out)) (cleared .last .0) _ _ (s .args .position) _ _ (cleared .ensures)
-    (added .ensures) (part .ensures) (part-marks (its-board s) _ (body-known known) _ (inside s) _ (part .ensures)) (omega (arith, cell-room s)) refl refl (s .pre .2)
+    (added .ensures) (part .ensures) (part-marks (its-board s) _ (body-known known) _ (inside s) _ (part .ensures)) (omega (arith, cell-room s)) refl refl
+    (s .pre .2)
 
 div-grid-row : tie.Need-div-grid-row
 div-grid-row c = width-least (c .before .before .before)

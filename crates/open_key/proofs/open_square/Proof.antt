@@ -12,7 +12,8 @@ returns : tie.Need-returns
 returns c =
     let done = c .before .before in
     let s = c .before .before .before .before .before .before .before in
-    in-front-part _ _ (now (s .args .out)) _ (done .fill-square .kept .1 .1 .1 .0 ∙ sym (prefix-long (s .args .board .«value_bytes») (now (s .args .out)) (omega (arith, s .pre .2)))) (done .fill-square .ensures)
+    let front = prefix-long (s .args .board .«value_bytes») (now (s .args .out)) (omega (arith, s .pre .2)) in
+    in-front-part _ _ (now (s .args .out)) _ (done .fill-square .kept .1 .1 .1 .0 ∙ sym front) (done .fill-square .ensures)
 
 cast-count : tie.Need-cast-count
 cast-count c = search needs

@@ -1,5 +1,4 @@
 -- `seed_row::expand` meets its contract. The loop's invariant: the bytes before `done` are the row's, the rest is as it was lent. Assumes nothing.
-use mathlib.Core.Path.{_≡_}
 use Prim.Native.Nat.{_-_}
 use native.Mathlib.Omega.{arith}
 use lib.ListN.{length}
@@ -7,8 +6,8 @@ use denote.Ref.{now}
 use borrow.Rule.Slice.PartMut.{mid-len}
 use Rattle.chacha20.specs.From.{expand-from}
 use Rattle.chacha20.proofs.Stream.{word-from}
-use Rattle.seed_row.proofs.Walks.{Gone, none-gone, all-gone}
-use Rattle.seed_row.proofs.OneRow.{next-written}
+use Rattle.seed_row.proofs.Walks.{Gone, none-gone, all-gone, next-written}
+use Rattle.seed_row.proofs.OneRow.{of-row}
 use Rattle.seed_row.proofs.expand.Statement.{statement}
 use Rattle.seed_row.proofs.expand.Tie as tie
 
@@ -27,7 +26,8 @@ loop-again c =
     let a = c .before .before .before .before .before .before .before .before .before .args in
     let put = c .before .before .put-stretch in
     let end = c .before .before .before .before .next-end .result in
-    next-written (now (a .seed)) (now (a .out)) (l .out) (a .start) (l .done) (l .inv) end (put .last .1 .1 .0) (omega arith) (omega arith) (put .kept .1 .1 .0) (put .ensures)
+    next-written (of-row (now (a .seed))) (now (a .out)) (l .out) (a .start) (l .done) (l .inv) end (put .last .1 .1 .0) (omega arith) (omega arith)
+    (put .kept .1 .1 .0) (put .ensures)
 
 returns : tie.Need-returns Inv-loop μ-loop
 returns c =

@@ -27,7 +27,8 @@ returns c =
 returns-2 : tie.Need-returns-2
 returns-2 c =
     let s = c .before .before .before .before .before .before .before in
-    front-of-four (s .args .bytes) (s .args .counter) (now (s .args .seed)) _ (omega (arith, s .pre .2, four-there (c .before .before .before .before))) (c .before .before .four-counters .ensures)
+    front-of-four (s .args .bytes) (s .args .counter) (now (s .args .seed)) _ (omega (arith, s .pre .2, four-there (c .before .before .before .before)))
+    (c .before .before .four-counters .ensures)
 
 slice-aggregate-block : tie.Need-slice-aggregate-block
 slice-aggregate-block c = search needs

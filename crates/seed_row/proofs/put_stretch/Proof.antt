@@ -1,6 +1,6 @@
 -- `seed_row::put_stretch` meets its contract. Four whole blocks, or one, or blocks of which a part is written. Assumes nothing.
 use borrow.Author.Needs.{needs}
-use mathlib.Core.Path.{refl, _∙_}
+use mathlib.Core.Path.{refl}
 use mathlib.Core.Logic.{inl, inr}
 use native.Mathlib.Omega.{arith}
 use lib.ListN.{length}
@@ -23,13 +23,15 @@ returns-2 c =
     let a = c .before .before .before .before .before .before .before .before .before .args in
     let made = c .before .before .make-blocks in
     let one = c .before .before .before .before .before .if2 .taken in
-    whole (a .at) (length (now (a .out))) _ (now (a .seed)) _ refl (omega (arith, c .before .before .before .before .if3 .taken)) (made .kept .1 .1 .1 .0) (made .ensures) (omega (arith, one))
+    whole (a .at) (length (now (a .out))) _ (now (a .seed)) _ refl (omega (arith, c .before .before .before .before .if3 .taken)) (made .kept .1 .1 .1 .0)
+    (made .ensures) (omega (arith, one))
 
 returns-3 : tie.Need-returns-3
 returns-3 c =
     let a = c .before .before .before .before .before .before .before .before .before .before .before .before .before .args in
     all-put (a .at) (now (a .seed)) (now (a .out)) _ _ _ (c .before .before .put .ensures)
-    (stretch-made (a .at) (length (now (a .out))) _ _ _ (now (a .seed)) _ refl refl refl (c .before .before .before .before .before .before .before .make-blocks2 .ensures))
+    (stretch-made (a .at) (length (now (a .out))) _ _ _ (now (a .seed)) _ refl refl refl
+    (c .before .before .before .before .before .before .before .make-blocks2 .ensures))
 
 cast-counter : tie.Need-cast-counter
 cast-counter c = search needs

@@ -7,8 +7,8 @@ use denote.Ref.{now}
 use borrow.Rule.Slice.PartMut.{mid-len}
 use Rattle.xor.specs.Xor.{xors}
 use Rattle.chacha20.specs.From.{expand-from}
-use Rattle.seed_row.proofs.Walks.{Gone, none-gone, all-gone}
-use Rattle.seed_row.proofs.OneRow.{xored-long, next-xored}
+use Rattle.seed_row.proofs.Walks.{Gone, none-gone, all-gone, xored-long, next-xored}
+use Rattle.seed_row.proofs.OneRow.{of-row}
 use Rattle.seed_row.proofs.xor_row.Statement.{statement}
 use Rattle.seed_row.proofs.xor_row.Tie as tie
 
@@ -28,14 +28,15 @@ loop-again c =
     let put = c .before .before .before .xor-stretch in
     let end = c .before .before .before .before .before .before .next-end .result in (
       put .kept .1 .1 .0 ∙ l .inv .0,
-      next-xored (now (a .seed)) (now (a .out)) (l .out) (a .start) (l .done) (l .inv .1) end (put .last .1 .1 .1 .0) (omega arith) (omega arith) (put .kept .1 .1 .1 .0) (put .ensures),
+      next-xored (of-row (now (a .seed))) (now (a .out)) (l .out) (a .start) (l .done) (l .inv .1) end (put .last .1 .1 .1 .0) (omega arith) (omega arith)
+          (put .kept .1 .1 .1 .0) (put .ensures),
     )
 
 returns : tie.Need-returns Inv-loop μ-loop
 returns c =
     let l = c .before .loop in
     let a = c .before .before .before .before .args in
-    all-gone _ (now (a .out)) (l .out) (l .done) (xored-long (now (a .seed)) (now (a .out)) (l .out) (a .start) (l .done)) (l .inv .1) (omega arith)
+    all-gone _ (now (a .out)) (l .out) (l .done) (xored-long (of-row (now (a .seed))) (now (a .out)) (l .out) (a .start) (l .done)) (l .inv .1) (omega arith)
 
 add-at : tie.Need-add-at Inv-loop μ-loop
 add-at c = omega arith

@@ -17,7 +17,8 @@ returns c =
     let a = c .before .before .before .before .before .before .before .before .before .before .before .before .before .args in
     let out = now (a .out) in
     c .before .before .xor-into .ensures
-    ∙ ap (λ (l : List ℕ). xors out l) (stretch-made (a .at) (length out) _ _ _ (now (a .seed)) _ refl refl refl (c .before .before .before .before .before .before .before .before .make-blocks .ensures))
+    ∙ ap (λ (l : List ℕ). xors out l) (stretch-made (a .at) (length out) _ _ _ (now (a .seed)) _ refl refl refl
+    (c .before .before .before .before .before .before .before .before .make-blocks .ensures))
 
 add-end : tie.Need-add-end
 add-end c = search needs

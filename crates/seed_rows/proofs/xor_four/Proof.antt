@@ -1,14 +1,14 @@
 -- `seed_rows::xor_four` meets its contract. The loop's invariant: into the bytes before `done` the rows' are XORed, the rest is as it was. Assumes nothing.
-use mathlib.Core.Path.{_≡_, refl, _∙_}
+use mathlib.Core.Path.{_≡_, _∙_}
 use Prim.Native.Nat.{_-_}
 use native.Mathlib.Omega.{arith}
 use lib.ListN.{length}
 use denote.Ref.{now}
 use borrow.Rule.Slice.PartMut.{mid-len}
 use Rattle.xor.specs.Xor.{xors}
-use Rattle.seed_row.proofs.Walks.{Gone, none-gone, all-gone}
+use Rattle.seed_row.proofs.Walks.{Gone, none-gone, all-gone, xored-long, next-xored}
 use Rattle.seed_rows.specs.Rows.{rows-joined}
-use Rattle.seed_rows.proofs.Fours.{rows-long, next-joined}
+use Rattle.seed_rows.proofs.Joined.{of-rows}
 use Rattle.seed_rows.proofs.xor_four.Statement.{statement}
 use Rattle.seed_rows.proofs.xor_four.Tie as tie
 
@@ -27,14 +27,15 @@ loop-again c =
     let a = c .before .before .before .before .before .before .before .before .before .before .before .before .before .args in
     let put = c .before .before .before .before .xor-four-blocks in
     let end = c .before .before .before .before .before .before .before .next-end .result in
-    let on = next-joined (now (a .seeds)) (now (a .out)) (l .out) (a .start) (l .done) (l .inv .1) end (put .last .1 .1 .1 .0) in
+    let on = next-xored (of-rows 4 (now (a .seeds))) (now (a .out)) (l .out) (a .start) (l .done) (l .inv .1) end (put .last .1 .1 .1 .0) in
     (put .kept .1 .1 .0 ∙ l .inv .0, on (omega arith) (omega arith) (put .kept .1 .1 .1 .0) (put .ensures))
 
 returns : tie.Need-returns Inv-loop μ-loop
 returns c =
     let l = c .before .loop in
     let a = c .before .before .before .before .before .args in
-    all-gone _ (now (a .out)) (l .out) (l .done) (rows-long (now (a .seeds)) (now (a .out)) (l .out) (a .start) (l .done)) (l .inv .1) (omega arith)
+    all-gone _ (now (a .out)) (l .out) (l .done) (xored-long (of-rows 4 (now (a .seeds))) (now (a .out)) (l .out) (a .start) (l .done)) (l .inv .1)
+    (omega arith)
 
 add-at : tie.Need-add-at Inv-loop μ-loop
 add-at c = omega arith

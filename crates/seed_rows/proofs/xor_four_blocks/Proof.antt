@@ -23,8 +23,12 @@ abbrev μ-loop : tie.MeasureT-loop
 loop-holds : tie.Need-loop-holds Inv-loop μ-loop
 loop-holds c =
     let a = c .before .before .before .before .before .before .before .args in
-    let out = now (a .out) in
-    (omega arith, refl, rows-start (a .at) (length out) (now (a .seeds)) out refl (good-by-entries out (λ i within. c .before .before .before .before .slice-known2 .given i .fits)))
+    let out = now (a .out) in (
+      omega arith,
+      refl,
+      rows-start (a .at) (length out) (now (a .seeds)) out refl
+          (good-by-entries out (λ i within. c .before .before .before .before .slice-known2 .given i .fits)),
+    )
 
 loop-again : tie.Need-loop-again Inv-loop μ-loop
 loop-again c =
@@ -33,7 +37,9 @@ loop-again c =
     let n = length (now (a .out)) in
     let put = c .before .before .xor-into in
     let made = c .before .before .before .before .before .before .before .before .before .before .four-seeds in
-    let row = row-of-four (l .lane) (a .at) _ _ (length (l .out)) n (now (a .seeds)) (made .last .1 .1 .0) (omega arith) refl refl (omega (arith, c .before .before .before .before .before .before .before .before .before .before .before .before .before .before .before .pre .3)) (l .inv .1) (made .ensures) in
+    let row = row-of-four (l .lane) (a .at) _ _ (length (l .out)) n (now (a .seeds)) (made .last .1 .1 .0) (omega arith) refl refl
+    (omega (arith, c .before .before .before .before .before .before .before .before .before .before .before .before .before .before .before .pre .3))
+    (l .inv .1) (made .ensures) in
     (omega arith, put .kept .0 ∙ l .inv .1, rows-turn (l .lane) (a .at) n (now (a .seeds)) (now (a .out)) (l .inv .2) row (put .ensures))
 
 returns : tie.Need-returns Inv-loop μ-loop

@@ -14,7 +14,8 @@ use Rattle.seed_rows.proofs.xor_fours.Statement.{statement}
 use Rattle.seed_rows.proofs.xor_fours.Tie as tie
 
 abbrev Inv-loop : tie.InvT-loop
-Inv-loop seeds start out₀ taken₀ count made₀ out taken made = (taken ≤ count) × (length out ≡ length out₀) × (length made ≡ 256) × (out ≡ xors out₀ (rows-joined taken start (length out₀) seeds))
+Inv-loop seeds start out₀ taken₀ count made₀ out taken made =
+    (taken ≤ count) × (length out ≡ length out₀) × (length made ≡ 256) × (out ≡ xors out₀ (rows-joined taken start (length out₀) seeds))
 
 abbrev μ-loop : tie.MeasureT-loop
 μ-loop seeds start out₀ taken₀ count made₀ out taken made = count - taken
@@ -28,8 +29,13 @@ returns c =
 loop-holds : tie.Need-loop-holds Inv-loop μ-loop
 loop-holds c =
     let a = c .before .before .before .args in
-    let out = now (a .out) in
-    (omega arith, refl, search needs, rows-start (a .start) (length out) (now (a .seeds)) out refl (good-by-entries out (λ i within. c .before .slice-known .given i .fits)))
+    let out = now (a .out) in (
+      omega arith,
+      refl,
+      search needs,
+      rows-start (a .start) (length out) (now (a .seeds)) out refl
+          (good-by-entries out (λ i within. c .before .slice-known .given i .fits)),
+    )
 
 loop-again : tie.Need-loop-again Inv-loop μ-loop
 loop-again c =
@@ -68,7 +74,10 @@ slice-aggregate-xor-four : tie.Need-slice-aggregate-xor-four Inv-loop μ-loop
 slice-aggregate-xor-four c = search needs
 
 xor-four-requires : tie.Need-xor-four-requires Inv-loop μ-loop
-xor-four-requires c κs = (four-long (now (c .before .before .before .before .before .before .before .before .args .seeds)) (c .before .before .before .before .loop .taken) (omega arith), omega arith, c .before .before .before .before .loop .inv .2)
+xor-four-requires c κs =
+    let l = c .before .before .before .before .loop in
+    let a = c .before .before .before .before .before .before .before .before .args in
+    (four-long (now (a .seeds)) (l .taken) (omega arith), omega arith, l .inv .2)
 
 add-taken : tie.Need-add-taken Inv-loop μ-loop
 add-taken c = omega arith

@@ -31,7 +31,8 @@ returns : tie.Need-returns
 returns c =
     let a = c .before .before .before .before .before .before .before .before .before .before .before .args in
     let fours = c .before .before .before .before .before .before .before .xor-fours in
-    rest-more (now (a .seeds)) (fours .result) (a .start) (length (now (a .out))) (now (a .out)) (length (fours .last .1 .1 .0)) (fours .kept .1 .1 .0) (fours .ensures .0) (fours .ensures .1) (c .before .before .xor-each .ensures)
+    rest-more (now (a .seeds)) (fours .result) (a .start) (length (now (a .out))) (now (a .out)) (length (fours .last .1 .1 .0)) (fours .kept .1 .1 .0)
+    (fours .ensures .0) (fours .ensures .1) (c .before .before .xor-each .ensures)
 
 pub xor-rows-spec : {M : Type 1} → statement M
 xor-rows-spec =
