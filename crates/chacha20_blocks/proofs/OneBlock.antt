@@ -7,6 +7,7 @@ use Rattle.chacha20.specs.Rfc8439.{initial-state, chacha20-block}
 
 -- the block function's four steps
 pub four-steps : (key nonce : List ℕ) (counter : ℕ) (initial state summed out : List ℕ) →
-    initial ≡ initial-state key counter nonce → state ≡ rounds 10 initial → summed ≡ sums state initial → out ≡ low-bytes summed → out ≡ chacha20-block key counter nonce
+    initial ≡ initial-state key counter nonce → state ≡ rounds 10 initial → summed ≡ sums state initial →
+    out ≡ low-bytes summed → out ≡ chacha20-block key counter nonce
 unfolding chacha20-block
 four-steps key nonce counter initial state summed out p q r s = rw (s, r, q, p)
