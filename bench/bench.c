@@ -10,7 +10,8 @@
 #include <string.h>
 #include <time.h>
 
-enum { SEED = NSG_SEED_BYTES, MOST_ROW = NSG_MOST_EXPANDED_BYTES, GUARD = 64, SQUARES = 64 };
+enum { SEED = NSG_SEED_BYTES, MOST_ROW = NSG_MOST_EXPANDED_BYTES, MOST_CARD = NSG_MOST_SHARE_BYTES };
+enum { GUARD = 64, SQUARES = 64, MOST_DECKS = 17 };
 enum { PASSES = 8, MOST_TASKS = 9, MOST_ROUNDS = 4000, LEAST_ROUNDS = 10 }; /* rounds of a race in each pass */
 
 static const double TURN = 20e-6; /* seconds that a contender's turn takes about, if one call is not longer */
@@ -25,11 +26,13 @@ static const struct contender {
     deal_call *deal;
     open_one_call *open_one;
     one_slice_call *open_all, *join_keys;
+    draw_card_call *draw_card;
     expand_call *expand;
 } contenders[CONTENDERS] = {
-    {"ours", nsg_deal, nsg_open_one, nsg_open_all, nsg_join_keys, nsg_expand},
-    {"plain C", plain_deal, plain_open_one, plain_open_all, plain_join_keys, plain_expand},
-    {"libsodium", libsodium_deal, libsodium_open_one, libsodium_open_all, libsodium_join_keys, libsodium_expand},
+    {"ours", nsg_deal, nsg_open_one, nsg_open_all, nsg_join_keys, nsg_draw_card, nsg_expand},
+    {"plain C", plain_deal, plain_open_one, plain_open_all, plain_join_keys, plain_draw_card, plain_expand},
+    {"libsodium", libsodium_deal, libsodium_open_one, libsodium_open_all, libsodium_join_keys, libsodium_draw_card,
+     libsodium_expand},
 };
 
 /* BearSSL XORs the key stream into the bytes that are there. It begins with a block, so a head goes through a block of its own. */
@@ -61,16 +64,24 @@ struct match {
     uint64_t arrays_length, seeds_length, words_length, key_length, keys_length, table_length;
     uint8_t value[16], *arrays, *seeds, *words, *keys;
     uint32_t squares[SQUARES]; /* what Open one opens in turn */
+    /* for Draw card, whose calls read its decks in turn, around and around */
+    const uint8_t *decks; /* the first; the next begin NSG_MOST_DECK_BYTES on from one another */
+    uint32_t card_bytes, deck_count, next_deck;
+    uint64_t deck_length;
 };
 
-static void *bytes(uint64_t length)
+static void *got(void *p)
 {
-    void *p = malloc(length);
     if (p == NULL) {
         fputs("bench: no memory\n", stderr);
         exit(2);
     }
     return p;
+}
+
+static void *bytes(uint64_t length)
+{
+    return got(malloc(length));
 }
 
 /* The same bytes in every run. */
@@ -83,11 +94,16 @@ static uint64_t drawn(void)
     return z ^ z >> 31;
 }
 
+static void draw_bytes(uint8_t *p, uint64_t length)
+{
+    for (uint64_t i = 0; i < length; i++)
+        p[i] = (uint8_t)drawn();
+}
+
 static uint8_t *drawn_bytes(uint64_t length)
 {
     uint8_t *p = bytes(length);
-    for (uint64_t i = 0; i < length; i++)
-        p[i] = (uint8_t)drawn();
+    draw_bytes(p, length);
     return p;
 }
 
@@ -129,22 +145,35 @@ static struct match drawn_match(uint32_t players, uint32_t positions, uint32_t w
 
 /* ---- tasks: one call of a contender */
 
-enum work { EXPAND, OPEN_ONE, OPEN_ALL, DEAL, JOIN_KEYS };
+enum work { EXPAND, OPEN_ONE, OPEN_ALL, DEAL, JOIN_KEYS, DRAW_CARD, READ_ONCE };
 
 struct task {
     enum work work;
     const struct contender *by;
-    const struct match *match;
+    struct match *match;
     expand_call *expand; /* for EXPAND */
     uint64_t length;     /* for EXPAND */
+    uint32_t player;     /* for DRAW_CARD, whose key it is; the others take the first */
     uint8_t *out;        /* has room for what the task writes */
 };
+
+static const uint8_t *deck_at(const struct match *m, uint32_t number)
+{
+    return m->decks + (size_t)number * NSG_MOST_DECK_BYTES;
+}
+
+static const uint8_t *deck_in_turn(struct match *m)
+{
+    const uint8_t *deck = deck_at(m, m->next_deck);
+    m->next_deck = (m->next_deck + 1) % m->deck_count;
+    return deck;
+}
 
 /* Makes the task's call; `before` were made in this turn. */
 static uint32_t done(const struct task *t, int before)
 {
     static const uint8_t seed[SEED] = {1, 2, 3};
-    const struct match *m = t->match;
+    struct match *m = t->match;
     uint32_t fault[NSG_FAULT_NUMBERS]; /* stays as it is: no deal here is refused */
     switch (t->work) {
     case EXPAND:
@@ -155,6 +184,12 @@ static uint32_t done(const struct task *t, int before)
         return t->by->open_all(m->keys, m->key_length, t->out, m->table_length);
     case JOIN_KEYS:
         return t->by->join_keys(m->keys, m->keys_length, t->out, m->table_length);
+    case DRAW_CARD:
+        return t->by->draw_card(m->keys + t->player * m->key_length, m->key_length, deck_in_turn(m), m->deck_length,
+                                m->card_bytes, t->out, m->card_bytes);
+    case READ_ONCE:
+        t->out[0] = read_once(deck_in_turn(m), m->deck_length);
+        return NSG_ACCEPTED;
     default:
         return t->by->deal(m->players, m->positions, m->width, m->value_bytes, m->point, m->value, m->value_bytes, m->arrays,
                            m->arrays_length, m->seeds, m->seeds_length, m->words, m->words_length, t->out, m->keys_length, fault);
@@ -251,6 +286,42 @@ static void compare_match(struct match *m)
     free(joined);
     free(opened);
     free(given);
+}
+
+/* All contenders draw the same bytes with each key from each deck in turn, and those of all keys join to the deck's
+   card of the point. */
+static void compare_cards(struct match *m)
+{
+    const uint32_t length = m->card_bytes;
+    uint8_t answers[MOST_DECKS][NSG_MOST_PLAYERS * MOST_CARD], expected[MOST_DECKS][MOST_CARD + GUARD];
+    uint8_t given[sizeof expected[0]];
+    for (uint32_t player = 0; player < m->players; player++)
+        for (int i = 0; i < CONTENDERS; i++)
+            for (uint32_t d = 0; d < m->deck_count; d++) {
+                struct task t = {.work = DRAW_CARD, .by = &contenders[i], .match = m, .player = player};
+                t.out = i == OURS ? expected[d] : given;
+                memset(t.out, 0xAA, sizeof given);
+                uint32_t answer = done(&t, 0);
+                same("draw card", contenders[i].name, answer, expected[d], t.out, sizeof given);
+                memcpy(answers[d] + player * length, t.out, length);
+            }
+    for (uint32_t d = 0; d < m->deck_count; d++) {
+        uint32_t answer = nsg_join_shares(m->players, length, answers[d], m->players * length, given, length);
+        same("draw card", "all players", answer, deck_at(m, d) + (size_t)m->point * length, given, length);
+    }
+}
+
+/* Reading gives the XOR of all bytes of each deck in turn. */
+static void compare_reading(struct match *m)
+{
+    for (uint32_t d = 0; d < m->deck_count; d++) {
+        uint8_t sum = 0, given;
+        struct task t = {.work = READ_ONCE, .match = m, .out = &given};
+        for (uint64_t i = 0; i < m->deck_length; i++)
+            sum ^= deck_at(m, d)[i];
+        uint32_t answer = done(&t, 0);
+        same("reading once", "plain C", answer, &sum, &given, 1);
+    }
 }
 
 /* ---- races: tasks that take turns */
@@ -371,19 +442,61 @@ static const struct {
     {{"p 2, N 4,096", 2, 4096}, {"p 4, N 4,096", 4, 4096}, {"p 6, N 4,096", 6, 4096}},
 };
 
-static struct match matches[BOARDS], growing[2][3];
+/* Decks of three players, on grids as wide as Choose width says; goals over plain C and over reading once. The last row
+   has more decks in turn than a cache has room for, and an odd number of them, so that all four contenders come to each
+   deck. */
+static const struct {
+    const char *name;
+    uint32_t cards, card_bytes, count;
+    double plain_goal, reading_goal;
+} decks[] = {
+    {"72 cards of 16 bytes", 72, 16, 1, 1.0, 0},
+    {"4,096 cards of 64 bytes", 4096, 64, 1, 1.0, 0},
+    {"65,536 cards of 16 bytes", 65536, 16, 1, 1.0, 0},
+    {"65,536 cards of 256 bytes", 65536, 256, 1, 1.0, 1.3},
+    {"65,536 cards of 256 bytes, 17 decks in turn, from memory", 65536, 256, MOST_DECKS, 1.0, 1.3},
+};
+enum { DECKS = sizeof decks / sizeof decks[0], DECK_PLAYERS = 3 };
 
-/* All races. BearSSL runs in the races of expansion too, our Expand in one race of Open one and our Open all in the race of Join keys,
-   each as the fourth. */
+static struct match matches[BOARDS], growing[2][3], drawing[DECKS];
+
+/* All races. BearSSL runs in the races of expansion too, our Expand in one race of Open one, our Open all in the race
+   of Join keys and reading once in the races of Draw card, each as the fourth. */
 static struct {
     struct race expand[EXPANSIONS], open_one[BOARDS], open_all[WHOLE_BOARDS], deal[WHOLE_BOARDS], join_keys, growth[2];
+    struct race draw_card[DECKS];
 } races;
 enum { RACES = sizeof races / sizeof(struct race) };
 
-static void enter_all(struct race *r, enum work work, const struct match *m)
+static void enter_all(struct race *r, enum work work, struct match *m)
 {
     for (int i = 0; i < CONTENDERS; i++)
         enter(r, (struct task){.work = work, .by = &contenders[i], .match = m});
+}
+
+/* Rows of one deck have it at one place, so that none has a better one; the row of many has others, which no other row
+   leaves in a cache. */
+static void prepare_cards(void)
+{
+    const size_t page = 4096, room = (size_t)(1 + MOST_DECKS) * NSG_MOST_DECK_BYTES;
+    uint8_t *first = got(aligned_alloc(page, room));
+    draw_bytes(first, room);
+    for (int k = 0; k < DECKS; k++) {
+        struct match *m = &drawing[k];
+        uint32_t width;
+        if (nsg_choose_width(DECK_PLAYERS, decks[k].cards, &width) != NSG_ACCEPTED)
+            fail("choose width", "ours", "refused");
+        *m = drawn_match(DECK_PLAYERS, decks[k].cards, width, 1);
+        m->card_bytes = decks[k].card_bytes;
+        m->deck_length = (uint64_t)decks[k].cards * m->card_bytes;
+        m->decks = decks[k].count == 1 ? first : first + NSG_MOST_DECK_BYTES;
+        m->deck_count = decks[k].count;
+        compare_match(m);
+        compare_cards(m);
+        compare_reading(m);
+        enter_all(&races.draw_card[k], DRAW_CARD, m);
+        enter(&races.draw_card[k], (struct task){.work = READ_ONCE, .match = m});
+    }
 }
 
 static void prepare(void)
@@ -413,6 +526,7 @@ static void prepare(void)
             compare_match(&growing[f][k]);
             enter_all(&races.growth[f], OPEN_ALL, &growing[f][k]);
         }
+    prepare_cards();
 }
 
 /* ---- tables */
@@ -428,12 +542,22 @@ static double spread(const struct timing *timings, int count)
     return most;
 }
 
-static void print_ratio(double ratio, double limit)
+/* A ratio and the goal for it, 0 where there is none. */
+static void print_goal(double ratio, double goal)
 {
-    if (limit == 0)
+    if (goal == 0)
         printf(" %.2f | |", ratio);
     else
-        printf(ratio > limit ? " **%.2f** | %.2f |" : " %.2f | %.2f |", ratio, limit);
+        printf(" %.2f | %.2f |", ratio, goal);
+}
+
+/* A ratio and its limit, 0 where there is none; in bold above it. */
+static void print_ratio(double ratio, double limit)
+{
+    if (limit == 0 || ratio <= limit)
+        print_goal(ratio, limit);
+    else
+        printf(" **%.2f** | %.2f |", ratio, limit);
 }
 
 static void print_row(const char *work, const char *of, const struct race *r, struct limits limits)
@@ -459,6 +583,24 @@ static void print_table(void)
     for (int k = 0; k < WHOLE_BOARDS; k++)
         print_row("deal,", boards[k].name, &races.deal[k], boards[k].deal);
     print_row("join keys,", boards[JOINED_BOARD].name, &races.join_keys, (struct limits){0, 0});
+}
+
+static void print_cards(void)
+{
+    puts("\n## Draw card\n\n"
+         "| deck | ours, ns | plain C, ns | libsodium, ns | reading once, ns "
+         "| ours / plain C | goal | ours / libsodium | ours / reading once | goal | spread |\n"
+         "|---|---:|---:|---:|---:|---:|---:|---:|---:|---:|---:|");
+    for (int k = 0; k < DECKS; k++) {
+        const struct timing *t = races.draw_card[k].timings;
+        printf("| p %u, μ %u: %s |", drawing[k].players, drawing[k].width, decks[k].name);
+        for (int i = 0; i <= CONTENDERS; i++)
+            printf(" %.0f |", t[i].best);
+        print_goal(t[OURS].best / t[PLAIN].best, decks[k].plain_goal);
+        printf(" %.2f |", t[OURS].best / t[LIBSODIUM].best);
+        print_goal(t[OURS].best / t[CONTENDERS].best, decks[k].reading_goal);
+        printf(" %.0f %% |\n", spread(t, CONTENDERS + 1));
+    }
 }
 
 static void print_open_one(void)
@@ -540,6 +682,7 @@ int main(void)
         most = each > most ? each : most;
     }
     print_table();
+    print_cards();
     print_open_one();
     print_join();
     print_peer();

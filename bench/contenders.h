@@ -10,17 +10,23 @@ typedef uint32_t deal_call(uint32_t players, uint32_t positions, uint32_t width,
 /* Open all and Join keys: from a key, from all keys. */
 typedef uint32_t one_slice_call(const uint8_t *in, uint64_t in_length, uint8_t *out, uint64_t out_length);
 typedef uint32_t open_one_call(const uint8_t *key, uint64_t key_length, uint32_t position, uint8_t *out, uint64_t out_length);
+typedef uint32_t draw_card_call(const uint8_t *key, uint64_t key_length, const uint8_t *deck, uint64_t deck_length,
+                                uint32_t card_bytes, uint8_t *out, uint64_t out_length);
 typedef uint32_t expand_call(const uint8_t *seed, uint64_t seed_length, uint64_t start, uint8_t *out, uint64_t out_length);
 
 deal_call plain_deal, libsodium_deal;
 one_slice_call plain_open_all, libsodium_open_all;
 one_slice_call plain_join_keys, libsodium_join_keys;
 open_one_call plain_open_one, libsodium_open_one;
+draw_card_call plain_draw_card, libsodium_draw_card;
 expand_call plain_expand, libsodium_expand;
 
 /* What scheme.c is given by a cipher: XORs a stretch of a seed's key stream, `length` bytes from byte `start` on, into `out`. */
 void plain_add_stretch(const uint8_t *seed, size_t start, uint8_t *out, size_t length);
 void libsodium_add_stretch(const uint8_t *seed, size_t start, uint8_t *out, size_t length);
+
+/* The XOR of all bytes: what reading them once takes (reading.c). */
+uint8_t read_once(const uint8_t *bytes, size_t length);
 
 /* What a stretch has of a block of 64 bytes that it begins inside of; 0 where it begins with a block. */
 static inline size_t head_bytes(uint64_t start, uint64_t length)

@@ -1,6 +1,6 @@
-/* The scheme of document 01 written plainly in C, over the cipher that PEER names (plain or libsodium): Deal, Open one, Open all and Join
-   keys. It turns away what document 01 turns away, with one number for all of it, so that no bytes lead it out of its slices; a refusal
-   writes nothing, not even the place of a bad column. */
+/* The scheme of document 01 written plainly in C, over the cipher that PEER names (plain or libsodium): Deal, Open one,
+   Open all, Join keys and document 02's Draw card. It turns away what these documents turn away, with one number for
+   all of it, so that no bytes lead it out of its slices; a refusal writes nothing, not even where a bad column is. */
 #include "contenders.h"
 #include <string.h>
 
@@ -152,6 +152,47 @@ uint32_t OF(join_keys)(const uint8_t *keys, uint64_t keys_length, uint8_t *out, 
     memset(out, 0, first.table_bytes);
     for (uint32_t i = 0; i < first.players; i++)
         add_table(&first, keys + (i + 1) * key_bytes - first.body_bytes, out);
+    return 0;
+}
+
+static uint8_t odd_mask(uint8_t share)
+{
+    return (uint8_t)-(share & 1);
+}
+
+/* XORs the cards with odd shares into `sum`. Every card goes under a mask: half of them are wanted, at random, and no
+   processor foresees a branch on that. Two cards at a time are faster than one; ./run tells what else was tried. */
+static void add_cards(uint8_t *restrict sum, const uint8_t *restrict cards, size_t card_bytes,
+                      const uint8_t *restrict shares, size_t count)
+{
+    size_t i = 0;
+    for (; i + 2 <= count; i += 2, cards += 2 * card_bytes) {
+        const uint8_t mask = odd_mask(shares[i]), next_mask = odd_mask(shares[i + 1]), *next = cards + card_bytes;
+        for (size_t k = 0; k < card_bytes; k++)
+            sum[k] ^= (cards[k] & mask) ^ (next[k] & next_mask);
+    }
+    if (i < count)
+        for (size_t k = 0; k < card_bytes; k++)
+            sum[k] ^= cards[k] & odd_mask(shares[i]);
+}
+
+uint32_t OF(draw_card)(const uint8_t *key, uint64_t key_length, const uint8_t *deck, uint64_t deck_length,
+                       uint32_t card_bytes, uint8_t *out, uint64_t out_length)
+{
+    struct board b;
+    const uint8_t *body = read_key(key, key_length, &b);
+    if (body == NULL || b.value_bytes != 1 || card_bytes < 1 || card_bytes > NSG_MOST_SHARE_BYTES ||
+        deck_length != (uint64_t)b.positions * card_bytes || out_length < card_bytes)
+        return 1;
+    memset(out, 0, card_bytes);
+    for (size_t g = 0, left = b.positions; g < b.grid_rows; g++) {
+        uint8_t shares[NSG_MOST_WIDTH] = {0};
+        size_t count = left < b.width ? left : b.width;
+        add_shares(&b, body, g, 0, shares, count);
+        add_cards(out, deck, card_bytes, shares, count);
+        deck += count * card_bytes;
+        left -= count;
+    }
     return 0;
 }
 

@@ -2,6 +2,9 @@
      player check           reads keys, in front of each a line with its length in bytes; writes at once for each its five header numbers
      player open            reads a key; writes its five header numbers on a line, then each position's share in hexadecimal, one on a line
      player join            reads all keys of a match one after another; writes each position's joined value in hexadecimal, one on a line
+     player card L          reads a key, in front of it a line with its length in bytes, and then a deck of cards of L
+                            bytes; writes what this key's phone answers, in hexadecimal
+     player shares P L      reads shares or answers of P players, L bytes each; writes their XOR in hexadecimal
      player length P N M W  writes the length of a key for P players, N positions, width M and values of W bytes
      player width P N       writes the grid's width for P players and N positions
      player expand START N  reads a seed; writes N bytes of its row in hexadecimal, from byte START on
@@ -13,7 +16,7 @@
 #include <stdlib.h>
 #include <string.h>
 
-static uint8_t input[NSG_MOST_KEYS_BYTES + 1], output[NSG_MOST_TABLE_BYTES];
+static uint8_t input[NSG_MOST_KEYS_BYTES + 1], deck[NSG_MOST_DECK_BYTES + 1], output[NSG_MOST_TABLE_BYTES];
 
 static uint32_t number_of(const char *word)
 {
@@ -44,12 +47,22 @@ static void put_table(const uint32_t header[NSG_HEADER_NUMBERS])
         put_line(output + position * header[4], header[4]);
 }
 
+/* Reads a line with a key's length, and the key. Answers 1; 0 where no number stands there, -1 where no such key
+   does. */
+static int read_key(unsigned long *length)
+{
+    if (scanf("%lu", length) != 1)
+        return 0;
+    return getchar() == '\n' && *length <= sizeof input && fread(input, 1, *length, stdin) == *length ? 1 : -1;
+}
+
 static int check_keys(void)
 {
     uint32_t header[NSG_HEADER_NUMBERS];
     unsigned long length;
-    while (scanf("%lu", &length) == 1) {
-        if (getchar() != '\n' || length > sizeof input || fread(input, 1, length, stdin) != length)
+    int read;
+    while ((read = read_key(&length)) != 0) {
+        if (read < 0)
             return 2;
         uint32_t number = nsg_check_key(input, length, header);
         if (number != NSG_ACCEPTED)
@@ -86,6 +99,30 @@ static int join_keys(void)
     if (number != NSG_ACCEPTED)
         return refused(number);
     put_table(header);
+    return 0;
+}
+
+/* Of a deck that is too long, one byte more than the longest deck is read, and refused. */
+static int draw_card(uint32_t card_bytes)
+{
+    unsigned long length;
+    if (read_key(&length) != 1)
+        return 2;
+    uint64_t deck_length = fread(deck, 1, sizeof deck, stdin);
+    uint32_t number = nsg_draw_card(input, length, deck, deck_length, card_bytes, output, sizeof output);
+    if (number != NSG_ACCEPTED)
+        return refused(number);
+    put_line(output, card_bytes);
+    return 0;
+}
+
+static int join_shares(uint32_t players, uint32_t share_bytes)
+{
+    uint64_t length = fread(input, 1, sizeof input, stdin);
+    uint32_t number = nsg_join_shares(players, share_bytes, input, length, output, sizeof output);
+    if (number != NSG_ACCEPTED)
+        return refused(number);
+    put_line(output, share_bytes);
     return 0;
 }
 
@@ -143,6 +180,10 @@ int main(int count, char **words)
         return open_key();
     if (count == 2 && strcmp(words[1], "join") == 0)
         return join_keys();
+    if (count == 3 && strcmp(words[1], "card") == 0)
+        return draw_card(number_of(words[2]));
+    if (count == 4 && strcmp(words[1], "shares") == 0)
+        return join_shares(number_of(words[2]), number_of(words[3]));
     if (count == 6 && strcmp(words[1], "length") == 0)
         return key_length(words + 2);
     if (count == 4 && strcmp(words[1], "width") == 0)
@@ -153,6 +194,7 @@ int main(int count, char **words)
         return sensor_position(number_of(words[2]));
     if (count == 2 && strcmp(words[1], "sensors") == 0)
         return sensors();
-    fprintf(stderr, "player: check | open | join | length P N M W | width P N | expand START N | sensor S | sensors\n");
+    fprintf(stderr, "player: check | open | join | card L | shares P L | length P N M W | width P N | expand START N"
+                    " | sensor S | sensors\n");
     return 2;
 }

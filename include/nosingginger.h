@@ -14,6 +14,7 @@
      seed          32 bytes. Its row is the first width * value_bytes bytes of ChaCha20's key stream (RFC 8439; nonce 0, counter from 0).
      share         what one player's key says of one position: value_bytes bytes, noise by themselves.
      table         the shares of all positions of one player, or all of them joined: entry a is the value_bytes bytes from a * value_bytes on.
+     deck          a card for each position, card_bytes bytes each, 1 to 256: card a is those from a * card_bytes on.
 
    What holds of every call
      - It returns NSG_ACCEPTED, or the first refusal number that fits, in the order that is given at the function. (nsg_held_seed alone has
@@ -31,8 +32,8 @@
      - A call needs stack: see NSG_STACK_BYTES.
 
    How long a call takes is proved nowhere. Measured is which branches and which addresses in memory depend on what a call is lent: in the
-   archive for x86-64, under valgrind's memcheck and on boards of 2 to 6 players with rows of 4 to 4,096 bytes, none depends on the value, a
-   seed, a word or a share, in any call. They do depend
+   archive for x86-64, under valgrind's memcheck and on boards of 2 to 6 players with rows of 4 to 4,096 bytes, and with rows of 4 to 256
+   bytes where cards of 1 to 256 bytes are drawn, none depends on the value, a seed, a word, a share or a card, in any call. They do depend
      - in nsg_deal on the arrays, which say whose the seeds are, and on the point: on its grid row, and on its cell by the address at which
        the value is put. Who can watch branches or addresses while a board deals can learn where the piece is. The same holds of a deal
        refused with 18, 19 or 20. Its number and `fault` can tell the point's grid row by themselves: they are for the board's maker, not
@@ -43,8 +44,8 @@
 
    What all players but one learn side by side: for freely drawn rows it is proved, as a count of dealings, that whichever player is left out,
    for every point and every value that may be named just as many dealings give everybody else the same keys. So nothing in those keys
-   speaks for one piece against another, where arrays are shuffled uniformly and rows are drawn freely. Drawing is the caller's part. The rows
-   that a call makes are ChaCha20's, of the lent seeds: that they are as good as freely drawn ones is believed, not proved. */
+   speaks for one piece against another, where arrays are shuffled uniformly and rows are drawn freely. Drawing at random is the caller's
+   part. The rows that a call makes are ChaCha20's, of the lent seeds: that they are as good as freely drawn ones is believed, not proved. */
 #ifndef NOSINGGINGER_H
 #define NOSINGGINGER_H
 
@@ -55,14 +56,15 @@ extern "C" {
 #endif
 
 /* The version, which `pkg-config --modversion nosingginger` tells too. */
-#define NSG_VERSION "0.3.0"
+#define NSG_VERSION "0.4.0"
 
 /* THE BOUNDS. */
 #define NSG_LEAST_PLAYERS 2u
 #define NSG_MOST_PLAYERS 6u
-#define NSG_MOST_POSITIONS 65536u   /* the least is 1, as for the three below */
+#define NSG_MOST_POSITIONS 65536u   /* the least is 1, as for the four below */
 #define NSG_MOST_WIDTH 256u
 #define NSG_MOST_VALUE_BYTES 16u
+#define NSG_MOST_SHARE_BYTES 256u   /* of what nsg_join_shares joins, and of a card */
 #define NSG_MOST_GRID_ROWS 256u
 #define NSG_MOST_COLUMNS 32u
 #define NSG_SEED_BYTES 32u
@@ -72,7 +74,7 @@ extern "C" {
 #define NSG_FAULT_NUMBERS 2u            /* what nsg_deal gives of a bad column */
 
 /* Stack that a call may need: a thread with this much to spare is enough. Measured on x86-64 Linux nsg_open_one takes
-   1.6 KiB and no call more than 1.9; the tests measure every call and fail above this figure. A board with less to
+   1.6 KiB and no call more than 2.4; the tests measure every call and fail above this figure. A board with less to
    spare measures its own build. */
 #define NSG_STACK_BYTES 32768u
 
@@ -83,11 +85,14 @@ extern "C" {
 #define NSG_SEEDS_BYTES(players, positions, width) (NSG_ARRAYS_BYTES(players, positions, width) * NSG_SEED_BYTES)
 #define NSG_WORDS_BYTES(players, width, value_bytes) ((NSG_COLUMNS(players) - 1u) * (width) * (value_bytes))
 #define NSG_TABLE_BYTES(positions, value_bytes) ((positions) * (value_bytes))
+#define NSG_DECK_BYTES(positions, card_bytes) ((positions) * (card_bytes))
 
-/* A key's length is what nsg_key_length gives. These are the largest there are: one key, all players' keys, a table. */
+/* A key's length is what nsg_key_length gives. These are the largest there are: one key, all players' keys, a table, a
+   deck. */
 #define NSG_MOST_KEY_BYTES 263176u
 #define NSG_MOST_KEYS_BYTES 1579056u
 #define NSG_MOST_TABLE_BYTES 1048576u
+#define NSG_MOST_DECK_BYTES 16777216u
 
 /* WHAT A CALL RETURNS, and what each number means. There is no 8: 18, 19 and 20 are in its place. A program that shows numbers to people has
    their names and words from the header beside this one, nosingginger_words.h. */
@@ -95,7 +100,7 @@ extern "C" {
 #define NSG_REFUSED_PLAYERS 1u        /* the number of players is not 2 to 6 */
 #define NSG_REFUSED_POSITIONS 2u      /* the number of positions is not 1 to 65,536 */
 #define NSG_REFUSED_WIDTH 3u          /* the grid's width is not 1 to 256 */
-#define NSG_REFUSED_VALUE_BYTES 4u    /* a value's width is not 1 to 16 bytes */
+#define NSG_REFUSED_VALUE_BYTES 4u    /* a value's width is not 1 to 16 bytes, or the width of shares to be joined not 1 to 256 */
 #define NSG_REFUSED_GRID_ROWS 5u      /* the board has more than 256 grid rows at this width */
 #define NSG_REFUSED_POINT 6u          /* the piece's point is none of the board's positions */
 #define NSG_REFUSED_LENT 7u           /* an input does not have the length that the numbers ask for */
@@ -111,6 +116,8 @@ extern "C" {
 #define NSG_REFUSED_COLUMN_BIT 18u    /* an array's column has a bit of no player */
 #define NSG_REFUSED_COLUMN_PARITY 19u /* an array's column has the wrong parity for its grid row */
 #define NSG_REFUSED_COLUMN_TWICE 20u  /* an array's column stood earlier in its array */
+#define NSG_REFUSED_CARD_KEY 21u      /* the key's values are wider than the one byte that drawing a card takes */
+#define NSG_REFUSED_DECK 22u          /* a card is not 1 to 256 bytes long, or the deck is not one card for each position */
 
 /* ---- THE BOARD: what its numbers ask for, before anything is dealt. ---- */
 
@@ -178,10 +185,28 @@ uint32_t nsg_open_one(const uint8_t *key, uint64_t key_length, uint32_t position
    Refusals, in this order: those of nsg_check_key; 9 output under positions * value_bytes. Writes positions * value_bytes bytes. */
 uint32_t nsg_open_all(const uint8_t *key, uint64_t key_length, uint8_t *out, uint64_t out_length);
 
+/* ---- DRAWING: one card of a deck that all players hold, and none of them learns which, unless all put their keys or
+   answers together. The deck is not secret from whoever may draw: docs/CARDS.md says what each side sees. ---- */
+
+/* DRAW CARD: what a player answers to a key that asks for a card: the XOR of the cards at the positions where the key's
+   share has its lowest bit set. Who wants the card at a position deals keys with value_bytes 1, that position as the
+   point and the value 1, and nsg_join_shares joins the answers of all players, with card_bytes as its value_bytes. They
+   join to the card at the point where the value is odd, and to zeros where it is even. Keys of different deals, or
+   decks that differ, are not refused: what they join to need not be a card. The call reads every card, whichever is
+   asked for.
+     deck         NSG_DECK_BYTES(positions, card_bytes) bytes, with the positions of the key's board.
+     card_bytes   1 to NSG_MOST_SHARE_BYTES.
+   Refusals, in this order: those of nsg_check_key; 21 a key with more value bytes than 1; 22 card_bytes, or a deck of
+   another length; 9 output under card_bytes. Writes card_bytes bytes. */
+uint32_t nsg_draw_card(const uint8_t *key, uint64_t key_length, const uint8_t *deck, uint64_t deck_length,
+                       uint32_t card_bytes, uint8_t *out, uint64_t out_length);
+
 /* ---- JOINING: what all players see together. ---- */
 
 /* JOIN SHARES: the XOR of all players' shares of one position: the value on the piece's square, zeros on every other.
-     shares   players * value_bytes bytes, one share after another, in any order of players.
+   Of all players' answers to a draw: the card.
+     value_bytes   of a share or an answer: here 1 to NSG_MOST_SHARE_BYTES.
+     shares        players * value_bytes bytes, one share after another, in any order of players.
    Refusals, in this order: 1; 4; 7 shares of another length; 9 output under value_bytes. Writes value_bytes bytes. */
 uint32_t nsg_join_shares(uint32_t players, uint32_t value_bytes, const uint8_t *shares, uint64_t shares_length,
                          uint8_t *out, uint64_t out_length);

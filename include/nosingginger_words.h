@@ -32,6 +32,8 @@ static inline const char *nsg_refusal_name(uint32_t number)
     case NSG_REFUSED_COLUMN_BIT: return "REFUSED_COLUMN_BIT";
     case NSG_REFUSED_COLUMN_PARITY: return "REFUSED_COLUMN_PARITY";
     case NSG_REFUSED_COLUMN_TWICE: return "REFUSED_COLUMN_TWICE";
+    case NSG_REFUSED_CARD_KEY: return "REFUSED_CARD_KEY";
+    case NSG_REFUSED_DECK: return "REFUSED_DECK";
     default: return "REFUSED";
     }
 }
@@ -44,7 +46,7 @@ static inline const char *nsg_refusal_words(uint32_t number)
     case NSG_REFUSED_PLAYERS: return "the number of players is not 2 to 6";
     case NSG_REFUSED_POSITIONS: return "the number of positions is not 1 to 65,536";
     case NSG_REFUSED_WIDTH: return "the grid's width is not 1 to 256";
-    case NSG_REFUSED_VALUE_BYTES: return "a value's width is not 1 to 16 bytes";
+    case NSG_REFUSED_VALUE_BYTES: return "a value's width is not 1 to 16 bytes, or the width of shares to be joined not 1 to 256";
     case NSG_REFUSED_GRID_ROWS: return "the board has more than 256 grid rows at this width";
     case NSG_REFUSED_POINT: return "the piece's point is none of the board's positions";
     case NSG_REFUSED_LENT: return "an input does not have the length that the numbers ask for";
@@ -60,6 +62,8 @@ static inline const char *nsg_refusal_words(uint32_t number)
     case NSG_REFUSED_COLUMN_BIT: return "an array's column has a bit of no player";
     case NSG_REFUSED_COLUMN_PARITY: return "an array's column has the wrong parity for its grid row";
     case NSG_REFUSED_COLUMN_TWICE: return "an array's column stood earlier in its array";
+    case NSG_REFUSED_CARD_KEY: return "the key's values are wider than the one byte that drawing a card takes";
+    case NSG_REFUSED_DECK: return "a card is not 1 to 256 bytes long, or the deck is not one card for each position";
     default: return "a number that is not known here";
     }
 }

@@ -9,3 +9,11 @@ export function systemBytes(length: number): Uint8Array;
  * given, answers as many bytes as it is asked for, drawn uniformly, and never the same again.
  */
 export function randomDealing(board: Board, random?: (length: number) => Uint8Array): Dealing;
+
+/**
+ * A dealing by whose keys a card is drawn: it hides the value 1, of one byte, at the wanted card, which is counted from
+ * 0 on. The deck has as many cards as there are positions. A board that cannot be dealt is a RangeError, and so is a
+ * card that the deck has not. The source of random bytes is as above.
+ */
+export function cardDealing(board: Omit<Board, 'valueBytes'>, card: number,
+    random?: (length: number) => Uint8Array): Dealing;

@@ -40,26 +40,51 @@ function shuffledArray(players, parity, random) {
     return array;
 }
 
-/**
- * A dealing of this board with a drawn point and a drawn value that is not zero. A board that cannot be dealt is a RangeError.
- * @param {import('./nosingginger.mjs').Board} board
- * @param {(length: number) => Uint8Array} [random] the source of random bytes; the system's where none is given
- * @returns {import('./nosingginger.mjs').Dealing}
- */
-export function randomDealing({ players, positions, width, valueBytes }, random = systemBytes) {
+function requireBoard({ players, positions, width, valueBytes }) {
     requireNumber('players', players, 2, 6);
     requireNumber('positions', positions, 1, 65536);
     requireNumber('width', width, Math.ceil(positions / 256), 256);
     requireNumber('valueBytes', valueBytes, 1, 16);
+}
+
+/** A dealing that hides this value at this point: what a noise chip draws for it. */
+function dealingOf({ players, positions, width, valueBytes }, point, value, random) {
     const columns = 2 ** (players - 1);
     const gridRows = Math.ceil(positions / width);
-    const point = below(positions, random);
     const pieceRow = Math.floor(point / width);
-    let value = random(valueBytes);
-    while (value.every((byte) => byte === 0)) value = random(valueBytes);
     const arrays = Uint8Array.from(
         Array.from({ length: gridRows }, (_, gridRow) => shuffledArray(players, gridRow === pieceRow ? 1 : 0, random)).flat());
     const seeds = random(gridRows * columns * 32);
     const words = random((columns - 1) * width * valueBytes);
     return { players, positions, width, valueBytes, point, value, arrays, seeds, words };
+}
+
+/**
+ * A dealing of this board with a drawn point and a drawn value that is not zero. A board that cannot be dealt is a
+ * RangeError.
+ * @param {import('./nosingginger.mjs').Board} board
+ * @param {(length: number) => Uint8Array} [random] the source of random bytes; the system's where none is given
+ * @returns {import('./nosingginger.mjs').Dealing}
+ */
+export function randomDealing(board, random = systemBytes) {
+    requireBoard(board);
+    const point = below(board.positions, random);
+    let value = random(board.valueBytes);
+    while (value.every((byte) => byte === 0)) value = random(board.valueBytes);
+    return dealingOf(board, point, value, random);
+}
+
+/**
+ * A dealing by whose keys a card is drawn: it hides the value 1, of one byte, at the wanted card. The deck has as many
+ * cards as there are positions. A board that cannot be dealt is a RangeError, and so is a card that the deck has not.
+ * @param {{ players: number, positions: number, width: number }} board
+ * @param {number} card the wanted card, from 0 on
+ * @param {(length: number) => Uint8Array} [random] the source of random bytes; the system's where none is given
+ * @returns {import('./nosingginger.mjs').Dealing}
+ */
+export function cardDealing({ players, positions, width }, card, random = systemBytes) {
+    const board = { players, positions, width, valueBytes: 1 };
+    requireBoard(board);
+    requireNumber('card', card, 0, positions - 1);
+    return dealingOf(board, card, Uint8Array.of(1), random);
 }

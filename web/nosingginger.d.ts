@@ -21,7 +21,7 @@ export const REFUSALS: readonly [
     Refusal<1, 'REFUSED_PLAYERS', 'the number of players is not 2 to 6'>,
     Refusal<2, 'REFUSED_POSITIONS', 'the number of positions is not 1 to 65,536'>,
     Refusal<3, 'REFUSED_WIDTH', "the grid's width is not 1 to 256">,
-    Refusal<4, 'REFUSED_VALUE_BYTES', "a value's width is not 1 to 16 bytes">,
+    Refusal<4, 'REFUSED_VALUE_BYTES', "a value's width is not 1 to 16 bytes, or the width of shares to be joined not 1 to 256">,
     Refusal<5, 'REFUSED_GRID_ROWS', 'the board has more than 256 grid rows at this width'>,
     Refusal<6, 'REFUSED_POINT', "the piece's point is none of the board's positions">,
     Refusal<7, 'REFUSED_LENT', 'an input does not have the length that the numbers ask for'>,
@@ -37,6 +37,8 @@ export const REFUSALS: readonly [
     Refusal<18, 'REFUSED_COLUMN_BIT', "an array's column has a bit of no player">,
     Refusal<19, 'REFUSED_COLUMN_PARITY', "an array's column has the wrong parity for its grid row">,
     Refusal<20, 'REFUSED_COLUMN_TWICE', "an array's column stood earlier in its array">,
+    Refusal<21, 'REFUSED_CARD_KEY', "the key's values are wider than the one byte that drawing a card takes">,
+    Refusal<22, 'REFUSED_DECK', 'a card is not 1 to 256 bytes long, or the deck is not one card for each position'>,
 ];
 
 /** Any refusal. */
@@ -166,7 +168,19 @@ export class Nosingginger {
     /** OPEN ALL: the key's share of each position from 0 on, positions × valueBytes bytes. Refusals: those of checkKey, 9. */
     openAll(key: Uint8Array, out?: Uint8Array): Uint8Array;
 
-    /** JOIN SHARES: the XOR of all players' shares, which stand one after another. Refusals: 1, 4, 7, 9. */
+    /**
+     * DRAW CARD: a phone's answer to whoever wants a card: the XOR of those cards of the deck at whose positions the
+     * key's share has its lowest bit set, cardBytes bytes. The deck has a card of cardBytes bytes, 1 to 256, for each
+     * position, one after another, and is the same for all players. Of all players' answers joinShares makes the card
+     * at the point, where the keys hide an odd value such as 1, and zeros where they hide an even one. Refusals: those
+     * of checkKey; 21 where the key's values are wider than one byte; 22 for cardBytes or the deck's length; 9.
+     */
+    drawCard(key: Uint8Array, deck: Uint8Array, cardBytes: number, out?: Uint8Array): Uint8Array;
+
+    /**
+     * JOIN SHARES: the XOR of all players' shares, or of their answers of drawCard, which stand one after another. Here
+     * valueBytes is 1 to 256. Refusals: 1, 4, 7, 9.
+     */
     joinShares(given: { players: number, valueBytes: number, shares: Uint8Array }, out?: Uint8Array): Uint8Array;
 
     /**

@@ -1,6 +1,6 @@
-// The eleven operations of Nosingginger for app makers, over its WebAssembly module: numbers and typed arrays in and out, refusals as errors
-// with a name. Runs in node and in browsers, with no other file than the module's bytes. Assumes that those are Nosingginger's.
-// nosingginger.d.ts has its types.
+// The operations of Nosingginger for app makers, over its WebAssembly module: numbers and typed arrays in and
+// out, refusals as errors with a name. Runs in node and in browsers, with no other file than the module's bytes. Assumes
+// that those are Nosingginger's. nosingginger.d.ts has its types.
 //
 //     import { load, Refused } from 'nosingginger';       // or from './nosingginger.mjs'
 //     const nosingginger = await load();                  // with nosingginger.wasm, which lies beside this file
@@ -17,7 +17,7 @@ export const REFUSALS = Object.freeze([
     [1, 'REFUSED_PLAYERS', 'the number of players is not 2 to 6'],
     [2, 'REFUSED_POSITIONS', 'the number of positions is not 1 to 65,536'],
     [3, 'REFUSED_WIDTH', "the grid's width is not 1 to 256"],
-    [4, 'REFUSED_VALUE_BYTES', "a value's width is not 1 to 16 bytes"],
+    [4, 'REFUSED_VALUE_BYTES', "a value's width is not 1 to 16 bytes, or the width of shares to be joined not 1 to 256"],
     [5, 'REFUSED_GRID_ROWS', 'the board has more than 256 grid rows at this width'],
     [6, 'REFUSED_POINT', "the piece's point is none of the board's positions"],
     [7, 'REFUSED_LENT', 'an input does not have the length that the numbers ask for'],
@@ -33,6 +33,8 @@ export const REFUSALS = Object.freeze([
     [18, 'REFUSED_COLUMN_BIT', "an array's column has a bit of no player"],
     [19, 'REFUSED_COLUMN_PARITY', "an array's column has the wrong parity for its grid row"],
     [20, 'REFUSED_COLUMN_TWICE', "an array's column stood earlier in its array"],
+    [21, 'REFUSED_CARD_KEY', "the key's values are wider than the one byte that drawing a card takes"],
+    [22, 'REFUSED_DECK', 'a card is not 1 to 256 bytes long, or the deck is not one card for each position'],
 ].map(([number, name, words]) => Object.freeze({ number, name, words })));
 
 /**
@@ -90,9 +92,11 @@ const FAULT_NUMBERS = 2;
 const NUMBER_BYTES = 4;
 const PAGE_BYTES = 65536;
 const MOST_PLAYERS = 6;
-const MOST_VALUE_BYTES = 16;
-const CALLS = ['key_length', 'deal', 'check_key', 'open_one', 'open_all', 'join_shares', 'join_keys', 'held_seed', 'expand', 'choose_width',
-    'sensor_position'];
+// The longest share that joinShares takes, and the longest card.
+const MOST_SHARE_BYTES = 256;
+const MOST_DECK_BYTES = 16777216;
+const CALLS = ['key_length', 'deal', 'check_key', 'open_one', 'open_all', 'draw_card', 'join_shares', 'join_keys',
+    'held_seed', 'expand', 'choose_width', 'sensor_position'];
 
 /**
  * Makes the operations from the WebAssembly module. The source may be
@@ -268,16 +272,39 @@ export class Nosingginger {
     }
 
     /**
-     * JOIN SHARES: the XOR of all players' shares. Refusals: 1, 4, 7, 9.
+     * DRAW CARD: a phone's answer to whoever wants a card: the XOR of those cards of the deck at whose positions the
+     * key's share has its lowest bit set. Of all players' answers joinShares makes the card at the point, where the
+     * keys hide an odd value such as 1, and zeros where they hide an even one. Refusals: those of checkKey; 21 where
+     * the key's values are wider than one byte; 22 where cardBytes is not 1 to 256 or the deck not positions ×
+     * cardBytes bytes; 9.
+     * @param {Uint8Array} key
+     * @param {Uint8Array} deck the cards one after another, one for each position, the same for all players
+     * @param {number} cardBytes
+     * @param {Uint8Array} [out] lent output
+     * @returns {Uint8Array} the answer, cardBytes bytes
+     */
+    drawCard(key, deck, cardBytes, out) {
+        u32(cardBytes, 'cardBytes');
+        // A longer card is refused and needs no room. So is a longer deck than there is: what it has past that is not
+        // copied.
+        const room = () => Math.min(cardBytes, MOST_SHARE_BYTES);
+        const inputs = [bytes(key, 'key'), bytes(deck, 'deck').subarray(0, MOST_DECK_BYTES + 1)];
+        const call = (lent, output) => this.#calls.draw_card(...lent, cardBytes, ...output);
+        return this.#answer(out, room, inputs, call);
+    }
+
+    /**
+     * JOIN SHARES: the XOR of all players' shares, or of their answers of drawCard. Refusals: 1; 4 where valueBytes is
+     * not 1 to 256; 7; 9.
      * @param {{ players: number, valueBytes: number, shares: Uint8Array }} given the shares one after another
      * @param {Uint8Array} [out] lent output
-     * @returns {Uint8Array} the value, valueBytes bytes
+     * @returns {Uint8Array} the value or the card, valueBytes bytes
      */
     joinShares({ players, valueBytes, shares }, out) {
         u32(players, 'players');
         u32(valueBytes, 'valueBytes');
         // A longer share is refused and needs no room.
-        const room = () => Math.min(valueBytes, MOST_VALUE_BYTES);
+        const room = () => Math.min(valueBytes, MOST_SHARE_BYTES);
         const inputs = [bytes(shares, 'shares')];
         return this.#answer(out, room, inputs, (lent, output) => this.#calls.join_shares(players, valueBytes, ...lent, ...output));
     }
@@ -404,8 +431,8 @@ export class Nosingginger {
         const missing = end - this.#memory.buffer.byteLength;
         if (missing > 0) this.#memory.grow(Math.ceil(missing / PAGE_BYTES));
         const memory = new Uint8Array(this.#memory.buffer);
-        slices.forEach((slice, index) => memory.set(slice, places[index]));
         try {
+            slices.forEach((slice, index) => memory.set(slice, places[index]));
             return call(slices.map((slice, index) => [places[index], BigInt(slice.length)]));
         } finally {
             memory.fill(0, this.#start, end);

@@ -35,9 +35,9 @@ async function runInApp(name, program) {
     return (await promisify(execFile)(process.execPath, [...withRandomSource, path.join(app, name)], { cwd: '/' })).stdout;
 }
 
-/** The first example of README.md in a language. */
-function shown(language) {
-    return new RegExp(`^\`\`\`${language}\\n(.*?)^\`\`\`$`, 'ms').exec(text('README.md'))[1];
+/** The example of README.md under a heading, which is its language, and its name where there are several. */
+function shown(heading) {
+    return new RegExp(`^\`\`\`${heading}\\n(.*?)^\`\`\`$`, 'ms').exec(text('README.md'))[1];
 }
 
 /** It is Nosingginger: sensor 8 lies under square 15. */
@@ -73,7 +73,7 @@ test('a refusal has the fields that are declared, and a place where one is', () 
 test('a call has as many parameters as are declared', () => {
     const body = /^export class Nosingginger \{\n(.*?)^\}$/ms.exec(text('nosingginger.d.ts'))[1];
     const methods = [...body.matchAll(/^ {4}(\w+)\((.*)\): /gm)];
-    assert.equal(methods.length, 11);
+    assert.equal(methods.length, 12);
     for (const [, name, parameters] of methods) {
         const many = parameters.replace(/\{.*?\}/g, '').split(',').length;
         assert.equal(Nosingginger.prototype[name].length, many, name);
@@ -102,6 +102,14 @@ test('README.md\u2019s program runs in an app', async () => {
     assert.match(written, /^both together see the piece: Uint8Array\(72\)/m);
     const [, promised] = /\/\/ (14 .*)$/m.exec(shown('js'));
     assert.equal(written.trimEnd().split('\n').at(-1), promised);
+});
+
+test('README.md\u2019s draw of a card runs in an app', async () => {
+    const program = shown('js draw');
+    const [, promised] = /\/\/ (\w+)$/m.exec(program);
+    assert.equal((await runInApp('draw.mjs', program)).trimEnd(), promised);
+    const other = program.replace('cardDealing(board, 2)', 'cardDealing(board, 1)');
+    assert.equal((await runInApp('other.mjs', other)).trimEnd(), 'owl');
 });
 
 test('load in node: nothing, URLs, paths from the folder that the program was started in', async () => {

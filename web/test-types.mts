@@ -1,7 +1,7 @@
 // Uses that the types must allow, and uses that they must refuse: tsc fails where a line under @ts-expect-error is allowed. Nothing here runs.
 import { load, loadBase64, Nosingginger, Refused, REFUSALS } from 'nosingginger';
 import type { Board, ColumnPlace, ColumnRefusal, Dealing, Header, RefusalName, RefusalNumber, RefusalWords, RefusedColumn } from 'nosingginger';
-import { randomDealing, systemBytes } from 'nosingginger/draw';
+import { cardDealing, randomDealing, systemBytes } from 'nosingginger/draw';
 
 // What the sources' own comments say of the types is what the declarations say. (Refusals are literals in the declarations alone.)
 type Said = Omit<typeof import('nosingginger'), 'REFUSALS' | 'Refused'>;
@@ -20,7 +20,10 @@ export function called(nosingginger: Nosingginger, bytes: Uint8Array): RefusalNu
     const header: Header = nosingginger.checkKey(keys);
     const answers: Uint8Array[] = [nosingginger.openOne(keys, 0, bytes), nosingginger.openAll(keys), nosingginger.joinKeys(keys, bytes),
         nosingginger.joinShares({ players: 2, valueBytes: 1, shares: keys }), nosingginger.heldSeed(keys, 0, 0),
-        nosingginger.expand(bytes, 0, bytes), nosingginger.expand(bytes, 64n, bytes)];
+        nosingginger.expand(bytes, 0, bytes), nosingginger.expand(bytes, 64n, bytes),
+        nosingginger.drawCard(keys, bytes, 32), nosingginger.drawCard(keys, bytes, 256, bytes),
+        nosingginger.deal(cardDealing(board, 5, systemBytes)),
+        cardDealing({ players: 2, positions: 6, width: 4 }, 5).value];
     try {
         nosingginger.keyLength({ ...header, positions: nosingginger.sensorPosition(answers.length) });
         return undefined;
@@ -87,6 +90,16 @@ export async function refused(nosingginger: Nosingginger, bytes: Uint8Array, boa
     nosingginger.joinKeys([bytes, bytes]);
     // @ts-expect-error shares are lent by name
     nosingginger.joinShares(2, 1, bytes);
+    // @ts-expect-error a card has a length
+    nosingginger.drawCard(bytes, bytes);
+    // @ts-expect-error which is a number
+    nosingginger.drawCard(bytes, bytes, 32n);
+    // @ts-expect-error a deck's cards stand one after another in one array
+    nosingginger.drawCard(bytes, [bytes, bytes], 32);
+    // @ts-expect-error an output is bytes
+    nosingginger.drawCard(bytes, bytes, 32, 32);
+    // @ts-expect-error a card is asked for
+    cardDealing(board);
     // @ts-expect-error expand has no length to make an output of
     nosingginger.expand(bytes, 0);
     // @ts-expect-error and a start before its output
@@ -99,12 +112,12 @@ export async function refused(nosingginger: Nosingginger, bytes: Uint8Array, boa
     nosingginger.dealAll(dealing);
     // @ts-expect-error there is no such name
     console.log(error.name === 'REFUSED_LENGHT');
-    // @ts-expect-error there are 19 refusals
-    REFUSALS[19];
+    // @ts-expect-error there are 21 refusals
+    REFUSALS[21];
     // @ts-expect-error which nobody changes
     REFUSALS[0].words = 'too many';
-    // @ts-expect-error 21 is no refusal
-    new Refused(21);
+    // @ts-expect-error 23 is no refusal
+    new Refused(23);
     // @ts-expect-error nor is 8
     console.log(error.number === 8);
     // @ts-expect-error 18 has a place

@@ -1,12 +1,13 @@
-// Tests of nosingginger.mjs in node: every call, every refusal, the place of a bad column, the printed deal, what is left of a lent output, the
-// largest table, the memory's growth, the second implementation's answers, drawn dealings and the example. Assumes that targets/build has run.
+// Tests of nosingginger.mjs in node: every call, every refusal, the place of a bad column, the printed deal, what is
+// left of a lent output, whole draws of cards, the largest table and the largest deck, the memory's growth, the second
+// implementation's answers, drawn dealings and the example. Assumes that targets/build has run.
 import assert from 'node:assert/strict';
 import { execFileSync } from 'node:child_process';
 import { readFileSync, readdirSync } from 'node:fs';
 import { test } from 'node:test';
 import { fileURLToPath } from 'node:url';
 import { load, loadBase64, Nosingginger, Refused, REFUSALS } from './nosingginger.mjs';
-import { randomDealing, systemBytes } from './draw.mjs';
+import { cardDealing, randomDealing, systemBytes } from './draw.mjs';
 import { keysApart, marked, printedDeal } from './match.mjs';
 import { sameEachTime } from './random.mjs';
 
@@ -43,7 +44,7 @@ test('the module has no imports and all calls', () => {
     const module = new WebAssembly.Module(moduleBytes);
     assert.deepEqual(WebAssembly.Module.imports(module), []);
     const names = WebAssembly.Module.exports(module).map(({ name }) => name).filter((name) => name.startsWith('nsg_'));
-    assert.equal(names.length, 11);
+    assert.equal(names.length, 12);
 });
 
 test('it is made from bytes, a module, a place and base64', async () => {
@@ -394,11 +395,202 @@ test('join shares', () => {
     assert.deepEqual([...nosingginger.joinShares({ players: 6, valueBytes: 1, shares }, filled(3))], [63]);
     const lent = filled(2);
     refused(1, () => nosingginger.joinShares({ players: 7, valueBytes: 0, shares }, lent), lent);
-    refused(4, () => nosingginger.joinShares({ players: 3, valueBytes: 17, shares }, lent), lent);
-    refused(4, () => nosingginger.joinShares({ players: 3, valueBytes: 0xFFFFFFFF, shares }));
+    for (const valueBytes of [0, 257, 258, 512, 0xFFFFFFFF]) {
+        refused(4, () => nosingginger.joinShares({ players: 3, valueBytes, shares }, lent), lent);
+        refused(4, () => nosingginger.joinShares({ players: 3, valueBytes, shares: new Uint8Array(3 * 257) }));
+    }
     refused(7, () => nosingginger.joinShares({ players: 3, valueBytes: 1, shares }, lent), lent);
     const short = filled(1);
     refused(9, () => nosingginger.joinShares({ players: 3, valueBytes: 2, shares }, short), short);
+});
+
+/** The XOR of byte strings of one length. */
+function xored(parts) {
+    return parts.reduce((sum, part) => sum.map((byte, place) => byte ^ part[place]));
+}
+
+test('join shares: every width from 1 to 256', () => {
+    for (let valueBytes = 1; valueBytes <= 256; valueBytes += 1) {
+        const players = 2 + (valueBytes % 5);
+        const shares = sameEachTime(valueBytes)(players * valueBytes);
+        const wanted = xored(cardsOf(shares, valueBytes));
+        assert.deepEqual(nosingginger.joinShares({ players, valueBytes, shares }), wanted);
+        const longer = filled(valueBytes + 3);
+        assert.deepEqual(nosingginger.joinShares({ players, valueBytes, shares }, longer), wanted);
+        assert.deepEqual(longer.subarray(valueBytes), filled(3));
+        const short = filled(valueBytes - 1);
+        refused(9, () => nosingginger.joinShares({ players, valueBytes, shares }, short), short);
+        refused(7, () => nosingginger.joinShares({ players, valueBytes, shares: shares.subarray(1) }, short), short);
+    }
+});
+
+/** A deck's cards, or shares of one width that stand one after another. */
+function cardsOf(deck, cardBytes) {
+    const many = deck.length / cardBytes;
+    return Array.from({ length: many }, (_, card) => deck.subarray(card * cardBytes, (card + 1) * cardBytes));
+}
+
+/** Each player's key of a draw of this card, on a board of players, positions and width. */
+function cardKeys([players, positions, width], card, random) {
+    return keysApart(nosingginger, nosingginger.deal(cardDealing({ players, positions, width }, card, random)));
+}
+
+/** What a phone answers, as it is defined: from the key's own table. */
+function answerOf(key, deck, cardBytes) {
+    const table = nosingginger.openAll(key);
+    return xored([new Uint8Array(cardBytes), ...cardsOf(deck, cardBytes).filter((_, card) => table[card] % 2 === 1)]);
+}
+
+/** All phones' answers, and what they join to. */
+function drawn(keys, deck, cardBytes) {
+    const answers = keys.map((key) => nosingginger.drawCard(key, deck, cardBytes));
+    const shares = Uint8Array.from(answers.flatMap((answer) => [...answer]));
+    return { answers, card: nosingginger.joinShares({ players: keys.length, valueBytes: cardBytes, shares }) };
+}
+
+// One grid row and many, a short last one, a width above the positions, 256 grid rows.
+const CARD_BOARDS = [[2, 1, 1], [2, 52, 12], [3, 52, 15], [4, 72, 24], [5, 5, 9], [6, 40, 7], [2, 256, 1],
+    [3, 300, 256]];
+
+test('draw card: the answers join to the wanted card, for every number of players and cards of 1 to 256 bytes', () => {
+    for (const board of CARD_BOARDS) {
+        const [, positions] = board;
+        for (const cardBytes of [1, 2, 15, 16, 17, 32, 63, 64, 65, 255, 256]) {
+            const random = sameEachTime(positions * 256 + cardBytes);
+            const deck = random(positions * cardBytes);
+            for (const card of new Set([0, Math.floor(positions / 2), positions - 1])) {
+                const keys = cardKeys(board, card, random);
+                const { answers, card: joined } = drawn(keys, deck, cardBytes);
+                assert.deepEqual(joined, cardsOf(deck, cardBytes)[card]);
+                answers.forEach((answer, player) => assert.deepEqual(answer, answerOf(keys[player], deck, cardBytes)));
+            }
+        }
+    }
+});
+
+test('draw card: every card of a deck, and a key for it each time anew', () => {
+    const names = Array.from({ length: 52 }, (_, card) => `card number ${card}`.padEnd(17));
+    const deck = new TextEncoder().encode(names.join(''));
+    const board = [4, 52, nosingginger.chooseWidth({ players: 4, positions: 52 })];
+    const random = sameEachTime(52);
+    const met = new Set();
+    names.forEach((name, card) => {
+        const keys = cardKeys(board, card, random);
+        assert.equal(new TextDecoder().decode(drawn(keys, deck, 17).card), name);
+        keys.forEach((key) => met.add(key.join()));
+    });
+    assert.equal(met.size, 4 * 52);
+});
+
+test('draw card: every odd value draws the card, and every even one zeros', () => {
+    const deck = sameEachTime(5)(6 * 20);
+    for (let value = 0; value < 256; value += 1) {
+        const dealing = cardDealing({ players: 3, positions: 6, width: 4 }, 5, sameEachTime(value));
+        const keys = nosingginger.deal({ ...dealing, value: Uint8Array.of(value) });
+        const { card } = drawn(keysApart(nosingginger, keys), deck, 20);
+        assert.deepEqual(card, value % 2 === 1 ? deck.subarray(100) : new Uint8Array(20));
+    }
+});
+
+test('draw card: refusals in their order, and lent output', () => {
+    const deal = (valueBytes) => keysApart(nosingginger, nosingginger.deal(
+        randomDealing({ players: 4, positions: 72, width: 24, valueBytes }, sameEachTime(valueBytes))));
+    const [[key], [wide], [widest]] = [deal(1), deal(2), deal(16)];
+    const changed = (place, byte) => Uint8Array.from(key, (own, index) => (index === place ? byte : own));
+    const deck = sameEachTime(72)(72 * 10);
+    const short = filled(9);
+    // The key's own numbers come first, also where its values are wide, and deck, length and output are wrong.
+    const wrong = [
+        [10, new Uint8Array(0)], [1, changed(0, 7)], [2, changed(2, 0)], [3, changed(3, 0)], [4, changed(4, 17)],
+        [5, Uint8Array.of(4, 0, 0x81, 0x02, 1, 2)], [11, changed(1, 4)], [12, changed(4, 2)],
+        [12, key.subarray(0, 583)], [13, changed(5, key[5] ^ 1)],
+        [13, Uint8Array.from(wide, (own, index) => (index === 5 ? own ^ 1 : own))],
+    ];
+    for (const [number, damaged] of wrong) {
+        refused(number, () => nosingginger.drawCard(damaged, deck, 0, short), short);
+        refused(number, () => nosingginger.drawCard(damaged, deck.subarray(1), 10, short), short);
+        refused(number, () => nosingginger.drawCard(damaged, deck, 10));
+    }
+    // 21 comes before 22 and 9, and 22 before 9.
+    for (const other of [wide, widest]) {
+        refused(21, () => nosingginger.drawCard(other, deck, 10));
+        refused(21, () => nosingginger.drawCard(other, deck.subarray(1), 0, short), short);
+    }
+    for (const cardBytes of [0, 257, 258, 512, 65536, 2 ** 29, 2 ** 31, 0xFFFFFFFF]) {
+        // Also a deck whose length is N × L where that is cut to 32 bits: with 2 to the power of 29 it is empty.
+        const long = (72 * cardBytes) % 2 ** 32;
+        for (const given of [deck, new Uint8Array(long < 2 ** 23 ? long : 1)]) {
+            refused(22, () => nosingginger.drawCard(key, given, cardBytes, short), short);
+            refused(22, () => nosingginger.drawCard(key, given, cardBytes));
+        }
+    }
+    for (const length of [0, 1, 10, 71 * 10, 719, 721, 73 * 10, 72 * 11, 1440]) {
+        refused(22, () => nosingginger.drawCard(key, new Uint8Array(length), 10, short), short);
+        refused(22, () => nosingginger.drawCard(key, new Uint8Array(length), 10));
+    }
+    refused(9, () => nosingginger.drawCard(key, deck, 10, short), short);
+    const none = filled(0);
+    refused(9, () => nosingginger.drawCard(key, deck, 10, none), none);
+    const longer = filled(300);
+    const answer = nosingginger.drawCard(key, deck, 10, longer);
+    assert.deepEqual([answer.buffer, answer.length], [longer.buffer, 10]);
+    assert.deepEqual(answer, answerOf(key, deck, 10));
+    assert.deepEqual(longer.subarray(10), filled(290));
+    assert.deepEqual(nosingginger.drawCard(key, deck, 10, filled(10)), answer);
+    assert.deepEqual(nosingginger.drawCard(key, deck, 10), answer);
+    // Key and deck may be parts of longer arrays, and the output the memory of either.
+    const around = Uint8Array.from([9, ...deck, 9, ...key, 9]);
+    const [deckThere, keyThere] = [around.subarray(1, 721), around.subarray(722, 722 + key.length)];
+    assert.deepEqual(nosingginger.drawCard(keyThere, deckThere, 10), answer);
+    assert.deepEqual(nosingginger.drawCard(keyThere.slice(), deckThere, 10, deckThere), answer);
+    assert.deepEqual([...around.subarray(0, 722)], [9, ...answer, ...deck.subarray(10), 9]);
+    assert.deepEqual(nosingginger.drawCard(keyThere, deck, 10, keyThere), answer);
+});
+
+test('bytes whose memory was handed on to a worker are no bytes, and what was lent beside them is wiped', () => {
+    const { own, memory } = withDeal((deal, lent) => deal(...lent));
+    const start = memory.buffer.byteLength;
+    const [key] = cardKeys([2, 6, 4], 5, sameEachTime(6));
+    const gone = filled(60);
+    structuredClone(gone.buffer, { transfer: [gone.buffer] });
+    const lent = filled(60);
+    for (const call of [() => own.drawCard(gone, filled(60), 10, lent), () => own.drawCard(key, gone, 10, lent),
+        () => own.drawCard(key, filled(60), 10, gone), () => own.openAll(key, gone), () => own.openAll(gone, lent),
+        () => own.deal({ ...printedDeal(), words: gone }, lent)]) {
+        assert.throws(call, TypeError);
+        assert.deepEqual(lent, filled(60));
+        assert.ok(new Uint8Array(memory.buffer, start).every((byte) => byte === 0));
+    }
+    assert.ok(memory.buffer.byteLength > start);
+});
+
+test('the largest deck: the memory grows to it once, holds nothing afterwards, and not to a longer one', () => {
+    const instance = new WebAssembly.Instance(new WebAssembly.Module(moduleBytes));
+    const { memory } = instance.exports;
+    const own = new Nosingginger(instance);
+    const start = memory.buffer.byteLength;
+    const [most, cardBytes] = [16777216, 256];
+    // One more than a deck has, and each card begins with its number.
+    const longer = new Uint8Array(most + 1).fill(0xA5);
+    const view = new DataView(longer.buffer);
+    for (let card = 0; card < 65536; card += 1) view.setUint32(card * cardBytes, card);
+    const deck = longer.subarray(0, most);
+    let grown = 0;
+    for (const card of [0, 40000, 65535]) {
+        const keys = cardKeys([3, 65536, 256], card, sameEachTime(card));
+        const answers = keys.map((key) => own.drawCard(key, deck, cardBytes));
+        assert.deepEqual(xored(answers), deck.subarray(card * cardBytes, (card + 1) * cardBytes));
+        grown ||= memory.buffer.byteLength;
+        for (const [given, long] of [[longer, cardBytes], [deck.subarray(1), cardBytes], [deck, 255], [deck, 257]]) {
+            const lent = filled(256);
+            refused(22, () => own.drawCard(keys[0], given, long, lent), lent);
+        }
+    }
+    assert.ok(grown > start + most && grown < start + most + 2 ** 17, `${start} bytes grew to ${grown}`);
+    const [small] = cardKeys([2, 1, 1], 0, sameEachTime(1));
+    refused(22, () => own.drawCard(small, new Uint8Array(2 ** 27), 1));
+    assert.equal(memory.buffer.byteLength, grown);
+    assert.ok(Buffer.from(memory.buffer, start).every((byte) => byte === 0));
 });
 
 test('join keys: every number of players, refusals and lent output', () => {
@@ -456,6 +648,17 @@ test('numbers that 32 bits cannot hold and things that are no bytes are the call
         assert.throws(() => nosingginger.openAll(key, filled(3)), TypeError);
     }
     assert.throws(() => nosingginger.expand(new Uint8Array(32), 0), TypeError);
+    const [key] = keysApart(nosingginger, nosingginger.deal(printedDeal()));
+    for (const other of [undefined, [1, 2], new ArrayBuffer(6), new Uint16Array(6), 'deck', 1]) {
+        assert.throws(() => nosingginger.drawCard(other, filled(6), 1), TypeError);
+        assert.throws(() => nosingginger.drawCard(key, other, 1), TypeError);
+        if (other !== undefined) assert.throws(() => nosingginger.drawCard(key, filled(6), 1, other), TypeError);
+    }
+    for (const cardBytes of [-1, 1.5, 2 ** 32, 2 ** 32 + 1, NaN, '1', 1n, undefined]) {
+        const lent = filled(6);
+        assert.throws(() => nosingginger.drawCard(key, filled(6), cardBytes, lent), RangeError);
+        assert.deepEqual(lent, filled(6));
+    }
     // Expand without a start, and with one that is no number of 64 bits, or a number that is not exact.
     assert.throws(() => nosingginger.expand(new Uint8Array(32), filled(32)), TypeError);
     for (const start of [-1, 0.5, 2 ** 53, 2 ** 64, -1n, 2n ** 64n, NaN, Infinity, '0', null, undefined]) {
@@ -522,9 +725,10 @@ const OPERATIONS = {
     9: ([low, high], [seed], out) => [[], nosingginger.expand(seed, (BigInt(high) << 32n) | BigInt(low), out)],
     10: ([players, positions]) => [[nosingginger.chooseWidth({ players, positions })]],
     11: ([sensor]) => [[nosingginger.sensorPosition(sensor)]],
+    14: ([cardBytes], [key, deck], out) => [[], nosingginger.drawCard(key, deck, cardBytes, out)],
 };
 
-test('the second implementation\u2019s answers, all cases of the eleven operations', () => {
+test('the second implementation\u2019s answers, all cases of the operations', () => {
     const file = readFileSync(new URL('crates/test_compare/data/cases.bin', root));
     assert.equal(file.toString('latin1', 0, 8), 'NGCASES1');
     const bytes = new Uint8Array(file);
@@ -585,6 +789,11 @@ test('a board that cannot be dealt is not drawn for', () => {
         { ...board, width: 0 }, { ...board, width: 257 }, { ...board, positions: 257, width: 1 }, { ...board, valueBytes: 0 },
         { ...board, valueBytes: 17 }, { ...board, valueBytes: undefined }, { ...board, positions: 1.5 }];
     for (const one of wrong) assert.throws(() => randomDealing(one), RangeError);
+    // For a card a board has values of one byte, whatever it says of them.
+    const wrongForCards = wrong.filter(({ valueBytes }) => valueBytes === 1);
+    for (const one of wrongForCards) assert.throws(() => cardDealing(one, 0), RangeError);
+    for (const card of [-1, 6, 1.5, NaN, '0', undefined]) assert.throws(() => cardDealing(board, card), RangeError);
+    assert.deepEqual(cardDealing({ ...board, valueBytes: 2 }, 5, sameEachTime(1)).value, Uint8Array.of(1));
 });
 
 test('the output may be the memory of an input', () => {

@@ -1,5 +1,6 @@
 //! The comparison's data: cases with their answers, in the bytes that FORMAT.md describes.
 
+use crate::cards::draw_card;
 use crate::chacha::expand;
 use crate::deal::{deal, Dealing, Refused};
 use crate::join::{join_keys, join_shares};
@@ -9,7 +10,8 @@ use crate::programs::{dealing_program, joining_program};
 use crate::sensors::sensor_position;
 use crate::width::choose_width;
 
-/// The operations, numbered in the order of document 01, and then the two programs.
+/// The operations of document 01, numbered in its order, then the two programs, then the operations
+/// of document 02.
 pub const KEY_LENGTH: u8 = 1;
 pub const DEAL: u8 = 2;
 pub const CHECK_KEY: u8 = 3;
@@ -23,6 +25,7 @@ pub const CHOOSE_WIDTH: u8 = 10;
 pub const SENSOR_POSITION: u8 = 11;
 pub const DEALING_PROGRAM: u8 = 12;
 pub const JOINING_PROGRAM: u8 = 13;
+pub const DRAW_CARD: u8 = 14;
 
 /// The first eight bytes of the file.
 pub const MAGIC: &[u8; 8] = b"NGCASES1";
@@ -109,6 +112,7 @@ impl Call {
             EXPAND => expand(input, start_of([a, b]), output).map(none),
             CHOOSE_WIDTH => choose_width(a, b).map(one),
             SENSOR_POSITION => sensor_position(a).map(one),
+            DRAW_CARD => draw_card(input, &self.inputs[1], a, output).map(none),
             other => panic!("no operation {other} on a lent output"),
         }
     }

@@ -1,9 +1,9 @@
 //! Dealings drawn from a small fixed generator, for tests and for the comparison's data. It is
 //! no source of secrets: the same start gives the same bytes.
 
-use crate::board::Board;
-use crate::deal::{deal, input_lengths, Dealing};
-use crate::key::key_bytes;
+use crate::board::{Board, SEED_BYTES};
+use crate::deal::{deal, input_lengths, mark_bytes, Dealing};
+use crate::key::{header_of, key_bytes};
 
 /// Marsaglia's xorshift on 64 bits, its state multiplied on the way out (xorshift64*).
 pub struct Generator {
@@ -43,6 +43,17 @@ impl Generator {
             columns.swap(last, self.below(last + 1));
         }
         columns
+    }
+
+    /// An accepted key that nobody dealt: J/2 marks in each grid row, any seeds and any words.
+    pub fn key(&mut self, board: &Board, player: usize) -> Vec<u8> {
+        let mut key = header_of(board, player).bytes();
+        for _ in 0..board.grid_rows() {
+            key.extend(mark_bytes(player, &self.array(board.players, 0)));
+            key.extend(self.bytes(board.columns() / 2 * SEED_BYTES));
+        }
+        key.extend(self.bytes(board.columns() * board.row_bytes()));
+        key
     }
 }
 

@@ -1,11 +1,14 @@
 //! Join shares and Join keys: all players' shares together give the value at the point and
 //! zero elsewhere.
 
-use crate::board::{FEWEST_PLAYERS, MOST_PLAYERS, MOST_VALUE_WIDTH};
+use crate::board::{FEWEST_PLAYERS, MOST_PLAYERS};
 use crate::deal::xor_into;
 use crate::key::{key_bytes, Header, Parts};
 use crate::open::table;
 use crate::refusal;
+
+/// "Join shares takes widths to 256 from now on", and a board's values keep theirs.
+pub const MOST_SHARE_WIDTH: u32 = 256;
 
 /// **Join shares** "(p, w, p × w bytes): 1; 4; 7; 9. It writes the w-byte XOR."
 pub fn join_shares(
@@ -17,7 +20,7 @@ pub fn join_shares(
     if !(FEWEST_PLAYERS..=MOST_PLAYERS).contains(&players) {
         return Err(refusal::PLAYERS);
     }
-    if !(1..=MOST_VALUE_WIDTH).contains(&value_width) {
+    if !(1..=MOST_SHARE_WIDTH).contains(&value_width) {
         return Err(refusal::VALUE_WIDTH);
     }
     if shares.len() != (players * value_width) as usize {

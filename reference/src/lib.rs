@@ -9,7 +9,7 @@
 //! number. Deal alone answers [`deal::Refused`], a number that may come with a place. On a
 //! refusal no lent byte is changed.
 //!
-//! | operation of document 01 | here |
+//! | operation | here |
 //! |---|---|
 //! | Key length | [`key::key_length`] |
 //! | Deal | [`deal::deal`] |
@@ -22,6 +22,7 @@
 //! | Expand | [`chacha::expand`] |
 //! | Choose width | [`width::choose_width`] |
 //! | Sensor position | [`sensors::sensor_position`] |
+//! | Draw card | [`cards::draw_card`] |
 //! | the dealing program | [`programs::dealing_program`] |
 //! | the joining program | [`programs::joining_program`] |
 //!
@@ -29,6 +30,7 @@
 //! papers.
 
 pub mod board;
+pub mod cards;
 pub mod cases;
 pub mod chacha;
 pub mod data;

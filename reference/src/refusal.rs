@@ -39,3 +39,7 @@ pub const COLUMN_BIT: u32 = 18;
 pub const COLUMN_PARITY: u32 = 19;
 /// 20: a column that stood earlier in its array.
 pub const COLUMN_TWICE: u32 = 20;
+/// 21: a card drawn with a key whose w is not 1.
+pub const CARD_KEY: u32 = 21;
+/// 22: a card's length L outside its range, or a deck that is not N × L bytes.
+pub const DECK: u32 = 22;

@@ -3,6 +3,7 @@
 //! its bytes."
 
 use reference::board::Board;
+use reference::cards::draw_card;
 use reference::chacha::expand;
 use reference::deal::{deal, Dealing, Place, Refused};
 use reference::draw::{Drawn, Generator};
@@ -113,14 +114,29 @@ fn shares() {
         })
     };
     assert_eq!(join(7, 0, &[], 0), Err(1));
-    assert_eq!(join(1, 17, &[], 0), Err(1));
+    assert_eq!(join(1, 257, &[], 0), Err(1));
     assert_eq!(join(2, 0, &[1], 0), Err(4));
-    assert_eq!(join(2, 17, &[1], 0), Err(4));
+    // The last but one has two shares of two bytes together, modulo 2^32.
+    for width in [257, 512, 65_537, (1 << 31) + 1, u32::MAX] {
+        assert_eq!(join(2, width, &[1, 2], 0), Err(4));
+    }
+    assert_eq!(join(2, 257, &[1; 514], 257), Err(4));
     assert_eq!(join(2, 2, &[1, 2, 3], 0), Err(7));
     assert_eq!(join(2, 2, &[1, 2, 3, 4, 5], 0), Err(7));
     assert_eq!(join(2, 2, &[1, 2, 3, 4], 1), Err(9));
     assert_eq!(join(2, 2, &[1, 2, 4, 8], 2), Ok(vec![5, 10]));
     assert_eq!(join(3, 1, &[1, 2, 4], 5), Ok(vec![7]));
+    for (players, width) in [(2, 17), (6, 255), (6, 256)] {
+        let exact = (players * width) as usize;
+        let shares = vec![1; exact + 1];
+        let output = width as usize;
+        let odd = (players % 2) as u8;
+        assert_eq!(join(players, width, &shares[..exact - 1], 0), Err(7));
+        assert_eq!(join(players, width, &shares, output), Err(7));
+        let joined = |lent| join(players, width, &shares[..exact], lent);
+        assert_eq!(joined(output - 1), Err(9));
+        assert_eq!(joined(output), Ok(vec![odd; output]));
+    }
 }
 
 /// Deal with all faults from each number on: the first is given.
@@ -218,7 +234,8 @@ fn every_changed_array_is_refused() {
     }
 }
 
-/// Check key, Open one, Open all and Held seed on a key with all faults from each number on.
+/// Check key, Open one, Open all, Draw card and Held seed on a key with all faults from each number
+/// on.
 #[test]
 fn a_key_gives_its_first_number() {
     let drawn = drawn([3, 7, 3, 1], 2);
@@ -240,6 +257,11 @@ fn a_key_gives_its_first_number() {
             }
             let answer = on_output(lent, 0, |output| open_all(key, output));
             assert_eq!(answer, Err(number));
+            for (deck, card_bytes) in [(0, 0), (7, 1), (7, u32::MAX), (49, 7)] {
+                let deck = vec![0xFF; deck];
+                let answer = on_output(lent, 0, |output| draw_card(key, &deck, card_bytes, output));
+                assert_eq!(answer, Err(number));
+            }
         }
         for column in 0..4 {
             assert!(held_seed(key, 0, column).is_empty());
@@ -285,6 +307,46 @@ fn an_accepted_key_refuses_positions_then_outputs() {
     assert_eq!(all(0), Err(9));
     assert!(all(50).is_ok());
     assert!(all(60).is_ok());
+}
+
+/// 21, then 22, then 9, whatever stands behind the first that fits.
+#[test]
+fn an_accepted_key_refuses_its_width_then_decks_then_outputs() {
+    for players in 2..=6 {
+        let narrow = drawn([players, 7, 3, 1], 60 + u64::from(players)).keys();
+        let deck = vec![0xA7; 7 * 300];
+        let draw = |deck_bytes: usize, card_bytes: u32, lent| {
+            on_output(lent, card_bytes as usize, |output| {
+                draw_card(&narrow[1], &deck[..deck_bytes], card_bytes, output)
+            })
+        };
+        for card_bytes in [1, 2, 255, 256] {
+            let card = card_bytes as usize;
+            assert!(draw(7 * card, card_bytes, card).is_ok());
+            assert!(draw(7 * card, card_bytes, card + 4).is_ok());
+            assert_eq!(draw(7 * card, card_bytes, card - 1), Err(9));
+            assert_eq!(draw(7 * card, card_bytes, 0), Err(9));
+            for deck_bytes in [0, 6 * card, 7 * card - 1, 7 * card + 1, 8 * card] {
+                assert_eq!(draw(deck_bytes, card_bytes, card), Err(22));
+                assert_eq!(draw(deck_bytes, card_bytes, 0), Err(22));
+            }
+        }
+        // L out of range: with a deck of N × L bytes, and with one of as many modulo 2^32.
+        let wrapping = u32::MAX / 7 + 1;
+        let wrapped = wrapping.wrapping_mul(7) as usize;
+        for (card_bytes, deck_bytes) in [(0, 0), (257, 7 * 257), (wrapping, wrapped)] {
+            assert_eq!(draw(deck_bytes, card_bytes, 300), Err(22));
+            assert_eq!(draw(deck_bytes, card_bytes, 0), Err(22));
+        }
+        for value_width in 2..=16 {
+            let wide = &drawn([players, 7, 3, value_width], 70).keys()[0];
+            for (deck_bytes, card_bytes, lent) in [(14, 2, 2), (14, 2, 0), (13, 2, 2), (0, 0, 0)] {
+                let deck = &deck[..deck_bytes];
+                let answer = on_output(lent, 0, |output| draw_card(wide, deck, card_bytes, output));
+                assert_eq!(answer, Err(21));
+            }
+        }
+    }
 }
 
 #[test]

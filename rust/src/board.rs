@@ -6,12 +6,15 @@ use crate::{key_length, Refusal};
 pub const LEAST_PLAYERS: u32 = 2;
 /// The most players.
 pub const MOST_PLAYERS: u32 = 6;
-/// The most positions; the least is 1, as for the two below.
+/// The most positions; the least is 1, as for the three below.
 pub const MOST_POSITIONS: u32 = 65_536;
 /// The most cells of a grid row.
 pub const MOST_WIDTH: u32 = 256;
 /// The most bytes of a value.
 pub const MOST_VALUE_BYTES: u32 = 16;
+/// The most bytes of what [`join_shares`](crate::join_shares) joins, and of a card that
+/// [`draw_card`](crate::draw_card) draws.
+pub const MOST_SHARE_BYTES: u32 = 256;
 /// The most grid rows.
 pub const MOST_GRID_ROWS: usize = 256;
 /// The most columns of an array: those of six players.
@@ -34,18 +37,20 @@ pub const MOST_SEEDS_BYTES: usize = MOST_ARRAYS_BYTES * SEED_BYTES;
 pub const MOST_WORDS_BYTES: usize = (MOST_COLUMNS - 1) * MOST_EXPANDED_BYTES;
 /// The most bytes that [`Board::table_len`] gives.
 pub const MOST_TABLE_BYTES: usize = 1_048_576;
+/// The most bytes that [`Board::deck_len`] gives.
+pub const MOST_DECK_BYTES: usize = 16_777_216;
 /// The most bytes that [`Board::key_len`] gives.
 pub const MOST_KEY_BYTES: usize = 263_176;
 /// The most bytes that [`Board::keys_len`] gives.
 pub const MOST_KEYS_BYTES: usize = 1_579_056;
 
-// Every size here has at most 21 bits: it fits where addresses have 32, and nothing smaller is built for.
+// Every size here has at most 25 bits: it fits where addresses have 32, and nothing smaller is built for.
 const _: () = assert!(usize::BITS >= 32);
 
 /// A board as a grid. [`key_length`] says whether its numbers are in their ranges.
 ///
 /// The functions below tell how long the slices must be that a call is lent. Each refuses as [`key_length`] does, and asks it before it
-/// reckons, so no number is too large for them.
+/// reckons, so no number is too large for them. [`deck_len`](Board::deck_len) alone has more to refuse.
 ///
 /// ```
 /// # use nosingginger::{Board, Refusal};
@@ -55,6 +60,8 @@ const _: () = assert!(usize::BITS >= 32);
 /// assert_eq!((spring.arrays_len()?, spring.seeds_len()?, spring.words_len()?), (24, 768, 168));
 /// assert_eq!((spring.key_len()?, spring.keys_len()?), (584, 2_336));
 /// assert_eq!(spring.table_len()?, 72);
+/// // What draw_card is lent beside the key, for cards of 100 bytes.
+/// assert_eq!(spring.deck_len(100)?, 7_200);
 /// assert_eq!(Board { players: u32::MAX, ..spring }.seeds_len(), Err(Refusal::Players));
 /// # Ok::<(), Refusal>(())
 /// ```
@@ -102,6 +109,20 @@ impl Board {
         self.in_range().map(InRange::table_len)
     }
 
+    /// Bytes of a deck, as [`draw_card`](crate::draw_card) takes it with a key of this board: positions × card_bytes.
+    /// Refuses further as that does: [`CardKey`](Refusal::CardKey) where value_bytes is not 1, [`Deck`](Refusal::Deck)
+    /// where card_bytes is not 1 to [`MOST_SHARE_BYTES`].
+    pub fn deck_len(self, card_bytes: u32) -> Result<usize, Refusal> {
+        let board = self.in_range()?;
+        if board.value_bytes != 1 {
+            return Err(Refusal::CardKey);
+        }
+        if !(1..=MOST_SHARE_BYTES).contains(&card_bytes) {
+            return Err(Refusal::Deck);
+        }
+        Ok(board.deck_len(card_bytes as usize))
+    }
+
     /// Bytes of one player's key: [`key_length`] as the length of a slice.
     pub fn key_len(self) -> Result<usize, Refusal> {
         self.in_range().map(|board| board.key_len)
@@ -131,7 +152,7 @@ struct InRange {
     key_len: usize,
 }
 
-#[expect(clippy::arithmetic_side_effects, reason = "players and width are not zero, and the largest result is MOST_KEYS_BYTES")]
+#[expect(clippy::arithmetic_side_effects, reason = "players and width are not zero, and the largest result is MOST_DECK_BYTES")]
 impl InRange {
     fn columns(self) -> usize {
         1 << (self.players - 1)
@@ -155,6 +176,10 @@ impl InRange {
 
     fn table_len(self) -> usize {
         self.positions * self.value_bytes
+    }
+
+    fn deck_len(self, card_bytes: usize) -> usize {
+        self.positions * card_bytes
     }
 
     fn keys_len(self) -> usize {

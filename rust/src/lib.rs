@@ -182,7 +182,51 @@ pub fn open_all(key: &[u8], table: &mut [u8]) -> Result<(), Refusal> {
     answered(unsafe { raw::nsg_open_all(key, length, table, table_length) })
 }
 
-/// **Join shares**: writes the XOR of the shares of all players, which stand one after another; value_bytes bytes.
+/// **Draw card**: writes what a player answers to a key that asks for a card: the XOR of the cards at the positions where
+/// the key's share has its lowest bit set, card_bytes bytes. Card a is the card_bytes bytes of the deck from
+/// a × card_bytes on, and all players hold the same deck, [`Board::deck_len`] bytes.
+///
+/// Who wants the card at a position deals keys with value_bytes 1, that position as the point and the value 1, and joins
+/// the answers of all players with [`join_shares`], with card_bytes as its value_bytes. They join to the card at the point
+/// where the value is odd, and to zeros where it is even. Keys of different deals, or decks that differ, are not refused:
+/// what they join to need not be a card.
+///
+/// Refuses as [`check_key`], then [`CardKey`](Refusal::CardKey) for a key whose value_bytes is not 1,
+/// [`Deck`](Refusal::Deck) where card_bytes is not 1 to [`MOST_SHARE_BYTES`] or the deck is not positions × card_bytes
+/// bytes, [`Room`](Refusal::Room).
+///
+/// ```
+/// # use nosingginger::{deal, draw_card, join_shares, Board, Dealing, Refusal};
+/// // Two players hold a deck of six cards, five bytes each. Who wants the queen hides a 1 at her position.
+/// let deck = b"sevenjack queenking ace  joker";
+/// let board = Board { players: 2, positions: 6, width: 4, value_bytes: 1 };
+/// assert_eq!(board.deck_len(5)?, deck.len());
+/// // Fixed bytes stand here for those that a game draws, as the crate's first page does.
+/// let (arrays, words) = ([1, 2, 3, 0], [0x5A, 0xC3, 0x0F, 0x96]);
+/// let seeds: Vec<u8> = (0..128).collect();
+/// let mut keys = vec![0; board.keys_len()?];
+/// deal(&Dealing { board, point: 2, value: &[1], arrays: &arrays, seeds: &seeds, words: &words }, &mut keys)?;
+///
+/// // Each player answers with a key of its own; together the answers are the card.
+/// let mut answers = [0; 2 * 5];
+/// for (key, answer) in keys.chunks(board.key_len()?).zip(answers.chunks_mut(5)) {
+///     draw_card(key, deck, 5, answer)?;
+/// }
+/// let mut card = [0; 5];
+/// join_shares(2, 5, &answers, &mut card)?;
+/// assert_eq!(&card, b"queen");
+/// assert_eq!(draw_card(&keys[..board.key_len()?], &deck[1..], 5, &mut card), Err(Refusal::Deck));
+/// # Ok::<(), Refusal>(())
+/// ```
+pub fn draw_card(key: &[u8], deck: &[u8], card_bytes: u32, card: &mut [u8]) -> Result<(), Refusal> {
+    let (key, length) = lent(key);
+    let (deck, deck_length) = lent(deck);
+    let (card, card_length) = lent_out(card);
+    answered(unsafe { raw::nsg_draw_card(key, length, deck, deck_length, card_bytes, card, card_length) })
+}
+
+/// **Join shares**: writes the XOR of the shares of all players, which stand one after another; value_bytes bytes, 1 to
+/// [`MOST_SHARE_BYTES`]. It joins what [`draw_card`] writes as well.
 ///
 /// Refuses [`Players`](Refusal::Players), [`ValueBytes`](Refusal::ValueBytes), [`Lent`](Refusal::Lent),
 /// [`Room`](Refusal::Room).

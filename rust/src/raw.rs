@@ -43,6 +43,17 @@ extern "C" {
     /// [`open_all`](crate::open_all).
     pub fn nsg_open_all(key: *const u8, key_length: u64, out: *mut u8, out_length: u64) -> u32;
 
+    /// [`draw_card`](crate::draw_card).
+    pub fn nsg_draw_card(
+        key: *const u8,
+        key_length: u64,
+        deck: *const u8,
+        deck_length: u64,
+        card_bytes: u32,
+        out: *mut u8,
+        out_length: u64,
+    ) -> u32;
+
     /// [`join_shares`](crate::join_shares).
     pub fn nsg_join_shares(players: u32, value_bytes: u32, shares: *const u8, shares_length: u64, out: *mut u8, out_length: u64) -> u32;
 

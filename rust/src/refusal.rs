@@ -91,7 +91,7 @@ refusals! {
     1 Players "PLAYERS" "the number of players is not 2 to 6"
     2 Positions "POSITIONS" "the number of positions is not 1 to 65,536"
     3 Width "WIDTH" "the grid's width is not 1 to 256"
-    4 ValueBytes "VALUE_BYTES" "a value's width is not 1 to 16 bytes"
+    4 ValueBytes "VALUE_BYTES" "a value's width is not 1 to 16 bytes, or the width of shares to be joined not 1 to 256"
     5 GridRows "GRID_ROWS" "the board has more than 256 grid rows at this width"
     6 Point "POINT" "the piece's point is none of the board's positions"
     7 Lent "LENT" "an input does not have the length that the numbers ask for"
@@ -107,6 +107,8 @@ refusals! {
     18 ColumnBit { grid_row, column } "COLUMN_BIT" "an array's column has a bit of no player"
     19 ColumnParity { grid_row, column } "COLUMN_PARITY" "an array's column has the wrong parity for its grid row"
     20 ColumnTwice { grid_row, column } "COLUMN_TWICE" "an array's column stood earlier in its array"
+    21 CardKey "CARD_KEY" "the key's values are wider than the one byte that drawing a card takes"
+    22 Deck "DECK" "a card is not 1 to 256 bytes long, or the deck is not one card for each position"
 }
 
 impl fmt::Display for Refusal {

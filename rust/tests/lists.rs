@@ -40,9 +40,9 @@ fn refusals_are_those_of_the_list() {
 }
 
 #[test]
-fn numbers_run_from_1_to_20_without_8_and_lead_back() {
+fn numbers_run_from_1_to_22_without_8_and_lead_back() {
     let numbers: Vec<u32> = (0..1_000).chain([u32::MAX - 1, u32::MAX]).filter(|number| of_number(*number).is_some()).collect();
-    assert_eq!(numbers, (1..=7).chain(9..=20).collect::<Vec<u32>>());
+    assert_eq!(numbers, (1..=7).chain(9..=22).collect::<Vec<u32>>());
     assert_eq!(numbers, Refusal::LIST.map(|(number, ..)| number));
     for number in numbers {
         let refusal = of_number(number).unwrap();
@@ -101,8 +101,9 @@ macro_rules! named {
 
 #[test]
 fn bounds_and_largest_sizes_are_those_of_the_header() {
-    let mut ours = BTreeMap::from(named!(LEAST_PLAYERS MOST_PLAYERS MOST_POSITIONS MOST_WIDTH MOST_VALUE_BYTES MOST_GRID_ROWS MOST_COLUMNS
-        SEED_BYTES MOST_EXPANDED_BYTES SENSORS STACK_BYTES MOST_KEY_BYTES MOST_KEYS_BYTES MOST_TABLE_BYTES));
+    let mut ours = BTreeMap::from(named!(LEAST_PLAYERS MOST_PLAYERS MOST_POSITIONS MOST_WIDTH MOST_VALUE_BYTES MOST_SHARE_BYTES
+        MOST_GRID_ROWS MOST_COLUMNS SEED_BYTES MOST_EXPANDED_BYTES SENSORS STACK_BYTES MOST_KEY_BYTES MOST_KEYS_BYTES MOST_TABLE_BYTES
+        MOST_DECK_BYTES));
     ours.insert("HEADER_NUMBERS", raw::HEADER_NUMBERS as u64);
     ours.insert("FAULT_NUMBERS", raw::FAULT_NUMBERS as u64);
     assert_eq!(ours, header_numbers());

@@ -1,8 +1,8 @@
 //! Every refusal by its name, from a call that meets it, one step away from a call that is accepted. The refusals of a column at every place.
 
 use nosingginger::{
-    check_key, choose_width, deal, expand, join_keys, join_shares, key_length, open_all, open_one, sensor_position, Board, Dealing, Header,
-    Refusal, MOST_EXPANDED_BYTES,
+    check_key, choose_width, deal, draw_card, expand, join_keys, join_shares, key_length, open_all, open_one, sensor_position, Board,
+    Dealing, Header, Refusal, MOST_EXPANDED_BYTES, MOST_SHARE_BYTES,
 };
 use reference::draw::Generator;
 
@@ -42,6 +42,7 @@ fn of_boards() {
     assert_eq!(key_length(Board { positions: 0, ..BOARD }), Err(Refusal::Positions));
     assert_eq!(key_length(Board { width: 257, ..BOARD }), Err(Refusal::Width));
     assert_eq!(key_length(Board { value_bytes: 17, ..BOARD }), Err(Refusal::ValueBytes));
+    assert_eq!(key_length(Board { value_bytes: MOST_SHARE_BYTES, ..BOARD }), Err(Refusal::ValueBytes));
     assert_eq!(key_length(Board { positions: 1_025, ..BOARD }), Err(Refusal::GridRows));
     assert_eq!(choose_width(1, 72), Err(Refusal::Players));
     assert_eq!(choose_width(4, 65_537), Err(Refusal::Positions));
@@ -181,6 +182,100 @@ fn of_joining() {
     let twice = [&dealt()[..KEY_BYTES], &dealt()[..KEY_BYTES]].concat();
     assert_eq!(join_keys(&twice, &mut [0; 6]), Err(Refusal::Place));
     assert_eq!(join_shares(2, 1, &[1], &mut [0]), Err(Refusal::Lent));
+}
+
+/// Shares of more bytes than a value has are joined, up to 256. The length of `shares` and the room matter after that.
+#[test]
+fn of_joining_wide_shares() {
+    let shares: Vec<u8> = (0..6 * 257).map(|place| (place * place / 7) as u8).collect();
+    for width in [16, 17, 255, 256] {
+        let (lent, mut joined) = (&shares[..3 * width], vec![0xC3; width + 1]);
+        assert_eq!(join_shares(3, width as u32, &shares[..3 * width - 1], &mut []), Err(Refusal::Lent), "{width}");
+        assert_eq!(join_shares(3, width as u32, &shares[..3 * width + 1], &mut joined), Err(Refusal::Lent), "{width}");
+        assert_eq!(join_shares(3, width as u32, lent, &mut joined[..width - 1]), Err(Refusal::Room), "{width}");
+        assert_eq!(joined, vec![0xC3; width + 1]);
+        assert_eq!(join_shares(3, width as u32, lent, &mut joined), Ok(()), "{width}");
+        let right = (0..width).map(|place| lent[place] ^ lent[width + place] ^ lent[2 * width + place]);
+        assert_eq!(joined, right.chain([0xC3]).collect::<Vec<u8>>(), "{width}");
+    }
+    // The last two make a product that is small where it wraps at 32 bits.
+    for (width, length) in [(0, 0), (257, 6 * 257), (512, 0), (1 << 16 | 1, 6), (u32::MAX, 0), (1 << 31, 0), (1 << 31 | 1, 6)] {
+        let mut joined = [0xC3; 257];
+        assert_eq!(join_shares(6, width, &shares[..length], &mut joined), Err(Refusal::ValueBytes), "{width}");
+        assert_eq!(join_shares(6, width, &[], &mut []), Err(Refusal::ValueBytes), "{width}");
+        assert_eq!(join_shares(7, width, &[], &mut []), Err(Refusal::Players), "{width}");
+        assert_eq!(joined, [0xC3; 257]);
+    }
+}
+
+/// Keys of two players for six cards, with values of so many bytes.
+fn keys_of_width(value_bytes: u32) -> Vec<u8> {
+    let board = Board { value_bytes, ..BOARD };
+    let (value, words) = (vec![1; value_bytes as usize], vec![7; board.words_len().unwrap()]);
+    let mut keys = vec![0; board.keys_len().unwrap()];
+    deal(&Dealing { board, value: &value, words: &words, ..DEALING }, &mut keys).unwrap();
+    keys
+}
+
+/// A draw that is refused with this, also where the card has no room, and that leaves what the card was.
+#[track_caller]
+fn refuses_to_draw(key: &[u8], deck: &[u8], card_bytes: u32, refusal: Refusal) {
+    let mut card = [0xC3; 300];
+    for room in [card.len(), 1, 0] {
+        assert_eq!(draw_card(key, deck, card_bytes, &mut card[..room]), Err(refusal), "{card_bytes} bytes, a deck of {}", deck.len());
+    }
+    assert_eq!(card, [0xC3; 300]);
+}
+
+/// Check key's own come first, and then the width of its values: deck and room matter after that.
+#[test]
+fn of_drawing_with_another_key() {
+    for (key, refusal) in [
+        (dealt()[..4].to_vec(), Refusal::Number),
+        (changed(0, 7), Refusal::Players),
+        (changed(2, 0), Refusal::Positions),
+        (changed(3, 0), Refusal::Width),
+        (changed(4, 17), Refusal::ValueBytes),
+        (changed(1, 2), Refusal::Player),
+        (changed(4, 2), Refusal::Length),
+        (changed(5, 3), Refusal::Marks),
+    ] {
+        refuses_to_draw(&key, &[0x5A; 6], 1, refusal);
+        refuses_to_draw(&key, &[], 0, refusal);
+    }
+    for value_bytes in [2, 3, 16] {
+        let keys = keys_of_width(value_bytes);
+        let key = &keys[..keys.len() / 2];
+        assert_eq!(check_key(key).map(|header| header.board.value_bytes), Ok(value_bytes));
+        for (length, card_bytes) in [(6, 1), (6 * value_bytes, value_bytes), (6, 0), (6 * 257, 257), (5, 1), (0, u32::MAX)] {
+            refuses_to_draw(key, &vec![0x5A; length as usize], card_bytes, Refusal::CardKey);
+        }
+    }
+}
+
+/// The card's length and then the deck's, before the room.
+#[test]
+fn of_drawing_from_another_deck() {
+    let (deck, keys) = ([0x5A; 7 * 257], dealt());
+    let key = &keys[..KEY_BYTES];
+    for card_bytes in [0, 257, 258, 512, 1 << 16 | 1, 1 << 31, u32::MAX] {
+        for length in [0, 6, 6 * 256, 6 * 257] {
+            refuses_to_draw(key, &deck[..length], card_bytes, Refusal::Deck);
+        }
+    }
+    // Six cards of this are 2^32 + 2 bytes.
+    refuses_to_draw(key, &deck[..2], 715_827_883, Refusal::Deck);
+    for card_bytes in [1, 2, 16, 17, 255, 256] {
+        let right = 6 * card_bytes;
+        for length in [0, card_bytes, right - card_bytes, right - 1, right + 1, right + card_bytes] {
+            refuses_to_draw(key, &deck[..length], card_bytes as u32, Refusal::Deck);
+        }
+        let mut card = vec![0xC3; card_bytes];
+        assert_eq!(draw_card(key, &deck[..right], card_bytes as u32, &mut card[1..]), Err(Refusal::Room));
+        assert_eq!(draw_card(key, &deck[..right], card_bytes as u32, &mut []), Err(Refusal::Room));
+        assert_eq!(card, vec![0xC3; card_bytes]);
+        assert_eq!(draw_card(key, &deck[..right], card_bytes as u32, &mut card), Ok(()));
+    }
 }
 
 /// Starts that are refused with so many bytes: just past the last that is accepted; far past it, some of them small

@@ -1,8 +1,9 @@
 //! The sizes that a board tells, held to what the calls accept: a length one less or one more is refused, or is too short for the output.
 
 use nosingginger::{
-    check_key, choose_width, deal, held_seed, join_keys, key_length, open_all, Board, Dealing, Refusal, MOST_ARRAYS_BYTES, MOST_COLUMNS,
-    MOST_GRID_ROWS, MOST_KEYS_BYTES, MOST_KEY_BYTES, MOST_SEEDS_BYTES, MOST_TABLE_BYTES, MOST_WORDS_BYTES,
+    check_key, choose_width, deal, draw_card, held_seed, join_keys, key_length, open_all, Board, Dealing, Refusal, MOST_ARRAYS_BYTES,
+    MOST_COLUMNS, MOST_DECK_BYTES, MOST_GRID_ROWS, MOST_KEYS_BYTES, MOST_KEY_BYTES, MOST_SEEDS_BYTES, MOST_SHARE_BYTES, MOST_TABLE_BYTES,
+    MOST_WORDS_BYTES,
 };
 use reference::draw::Generator;
 
@@ -107,6 +108,35 @@ fn a_dealt_key_has_these_lengths_and_no_other() {
     }
 }
 
+/// A deck has a length where a draw is accepted, and there alone: the refusals are the draw's own.
+#[test]
+fn a_deck_has_this_length_and_no_other() {
+    let mut generator = Generator::new(19);
+    let widest = Board { value_bytes: 1, ..LARGEST };
+    for board in boards().into_iter().chain([widest]) {
+        let mut keys = vec![0; board.keys_len().unwrap()];
+        Drawn::new(board, &mut generator).deal([0; 4], &mut keys).unwrap();
+        let key = &keys[..board.key_len().unwrap()];
+        let mut card = [0; MOST_SHARE_BYTES as usize];
+        for card_bytes in [0, 1, 2, 100, 255, MOST_SHARE_BYTES, 257, u32::MAX] {
+            let length = board.deck_len(card_bytes);
+            let deck = vec![0x5A; length.map_or(1, |length| length + 1)];
+            let mut draw = |length: usize| draw_card(key, &deck[..length], card_bytes, &mut card);
+            match length {
+                Ok(length) => {
+                    assert_eq!(draw(length), Ok(()), "{board:?}, {card_bytes}");
+                    assert_eq!(draw(length - 1), Err(Refusal::Deck), "{board:?}, {card_bytes}");
+                    assert_eq!(draw(length + 1), Err(Refusal::Deck), "{board:?}, {card_bytes}");
+                    assert!(length <= MOST_DECK_BYTES);
+                }
+                Err(refusal) => assert_eq!([draw(0), draw(1)], [Err(refusal); 2], "{board:?}, {card_bytes}"),
+            }
+        }
+    }
+    assert_eq!(widest.deck_len(MOST_SHARE_BYTES), Ok(MOST_DECK_BYTES));
+    assert_eq!(LARGEST.deck_len(1), Err(Refusal::CardKey));
+}
+
 /// A player holds the seeds of half of the columns in every grid row, and none behind the last.
 #[test]
 fn columns_and_grid_rows_are_where_seeds_are_held() {
@@ -149,6 +179,7 @@ fn every_size_refuses_as_key_length_does() {
                 let board = Board { players, positions, width, value_bytes };
                 if let Err(refusal) = key_length(board) {
                     assert_eq!(sizes(board), [Err(refusal); 8], "{board:?}");
+                    assert_eq!([0, 1].map(|card_bytes| board.deck_len(card_bytes)), [Err(refusal); 2], "{board:?}");
                     met[refusal.number() as usize - 1] += 1;
                 } else {
                     assert!(sizes(board).iter().all(Result::is_ok), "{board:?}");

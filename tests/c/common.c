@@ -87,7 +87,7 @@ uint32_t next_below(uint32_t limit)
     return (uint32_t)(next_number() % limit);
 }
 
-static struct lent lend_drawn(uint64_t length)
+struct lent lend_drawn(uint64_t length)
 {
     struct lent lent = lend_filled(0, length);
     for (uint64_t i = 0; i < length; i++)
@@ -139,6 +139,11 @@ uint32_t deal(const struct draw *draw, struct lent *keys, struct lent *fault)
     return nsg_deal(draw->board.players, draw->board.positions, draw->board.width, draw->board.value_bytes, draw->point,
                     draw->value.bytes, draw->value.length, draw->arrays.bytes, draw->arrays.length, draw->seeds.bytes, draw->seeds.length,
                     draw->words.bytes, draw->words.length, keys->bytes, keys->length, (uint32_t *)(void *)fault->bytes);
+}
+
+uint32_t draw_card(const struct lent *key, const struct lent *deck, uint32_t card_bytes, struct lent *out)
+{
+    return nsg_draw_card(key->bytes, key->length, deck->bytes, deck->length, card_bytes, out->bytes, out->length);
 }
 
 void give_back_draw(struct draw *draw)

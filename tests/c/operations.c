@@ -1,4 +1,5 @@
-/* Accepted calls: document 01's printed deal and RFC 8439's key stream byte by byte, and dealings of many boards, dealt, checked, opened and joined. */
+/* Accepted calls: document 01's printed deal and RFC 8439's key stream byte by byte; dealings of many boards, dealt,
+   checked, opened and joined; shares of every width joined; cards drawn from decks of every kind. */
 #include "common.h"
 #include <stdio.h>
 #include <string.h>
@@ -211,6 +212,128 @@ static void test_dealing(struct board board, uint32_t point)
     give_back_draw(&draw);
 }
 
+static int all_zeros(const uint8_t *bytes, uint64_t length)
+{
+    uint8_t all = 0;
+    for (uint64_t i = 0; i < length; i++)
+        all |= bytes[i];
+    return all == 0;
+}
+
+/* Shares of every width that can be joined, by every number of players. */
+static void test_join_shares(void)
+{
+    for (uint32_t players = NSG_LEAST_PLAYERS; players <= NSG_MOST_PLAYERS; players++)
+        for (uint32_t width = 1; width <= NSG_MOST_SHARE_BYTES; width++) {
+            struct lent shares = lend_drawn(players * width), out = lend_filled(FILL, width + width % 3);
+            CHECK(nsg_join_shares(players, width, shares.bytes, shares.length, out.bytes, out.length) == NSG_ACCEPTED);
+            CHECK(untouched(&shares) && untouched_past(&out, width));
+            for (uint64_t i = 0; i < shares.length; i++)
+                out.bytes[i % width] ^= shares.bytes[i];
+            CHECK(all_zeros(out.bytes, width));
+            give_back(&shares);
+            give_back(&out);
+        }
+}
+
+/* What one player answers: the XOR of the cards at the positions where the key's table has an odd byte. */
+static void test_answer(struct board board, const struct lent *key, const struct lent *deck, uint32_t card_bytes,
+                        uint8_t *answer)
+{
+    struct lent table = lend_filled(FILL, board.positions), out = lend_filled(FILL, card_bytes + card_bytes % 3);
+    CHECK(draw_card(key, deck, card_bytes, &out) == NSG_ACCEPTED);
+    CHECK(untouched(key) && untouched(deck) && untouched_past(&out, card_bytes));
+    memcpy(answer, out.bytes, card_bytes);
+    CHECK(nsg_open_all(key->bytes, key->length, table.bytes, table.length) == NSG_ACCEPTED);
+    for (uint32_t position = 0; position < board.positions; position++)
+        for (uint32_t i = 0; table.bytes[position] % 2 == 1 && i < card_bytes; i++)
+            out.bytes[i] ^= deck->bytes[position * card_bytes + i];
+    CHECK(all_zeros(out.bytes, card_bytes));
+    give_back(&table);
+    give_back(&out);
+}
+
+/* A value hidden at the point, and a card drawn by all players: the point's where the value is odd, else zeros. */
+static void test_draw(struct board board, uint32_t point, uint8_t value, const struct lent *deck)
+{
+    static const uint8_t zeros[NSG_MOST_SHARE_BYTES];
+    const uint32_t card_bytes = (uint32_t)(deck->length / board.positions), length = key_length(board);
+    struct draw draw = draw_dealing(board, point);
+    draw.value.bytes[0] = value;
+    struct lent keys = dealt_keys(&draw), answers = lend_filled(FILL, board.players * card_bytes);
+    struct lent card = lend_filled(FILL, card_bytes + SPARE);
+    for (uint32_t player = 0; player < board.players; player++) {
+        struct lent key = lend(keys.bytes + player * length, length);
+        test_answer(board, &key, deck, card_bytes, answers.bytes + player * card_bytes);
+        give_back(&key);
+    }
+    CHECK(nsg_join_shares(board.players, card_bytes, answers.bytes, answers.length, card.bytes, card.length)
+          == NSG_ACCEPTED);
+    CHECK(memcmp(card.bytes, value % 2 == 1 ? deck->bytes + point * card_bytes : zeros, card_bytes) == 0);
+    CHECK(untouched_past(&card, card_bytes));
+    give_back(&card);
+    give_back(&answers);
+    give_back(&keys);
+    give_back_draw(&draw);
+}
+
+/* One deck: its first and its last card, and any with an odd value and with an even one. */
+static void test_deck(struct board board, uint32_t card_bytes)
+{
+    struct lent deck = lend_drawn(NSG_DECK_BYTES(board.positions, card_bytes));
+    test_draw(board, 0, 1, &deck);
+    test_draw(board, board.positions - 1, 1, &deck);
+    test_draw(board, next_below(board.positions), (uint8_t)(next_number() | 1), &deck);
+    test_draw(board, next_below(board.positions), (uint8_t)(next_number() << 1), &deck);
+    give_back(&deck);
+}
+
+/* Every length of a card, each with an odd value and with an even one; together these are all values. */
+static void test_card_lengths(uint32_t players)
+{
+    for (uint32_t card_bytes = 1; card_bytes <= NSG_MOST_SHARE_BYTES; card_bytes++) {
+        struct lent deck = lend_drawn(NSG_DECK_BYTES(3, card_bytes));
+        test_draw((struct board){players, 3, 2, 1}, card_bytes % 3, (uint8_t)card_bytes, &deck);
+        test_draw((struct board){players, 3, 2, 1}, card_bytes % 3, (uint8_t)(card_bytes ^ 1), &deck);
+        give_back(&deck);
+    }
+}
+
+/* Two players draw from the largest deck there is. */
+static void test_largest_deck(void)
+{
+    const struct board board = {2, NSG_MOST_POSITIONS, NSG_MOST_WIDTH, 1};
+    struct lent deck = lend_filled(0, NSG_MOST_DECK_BYTES);
+    CHECK(NSG_MOST_DECK_BYTES == NSG_DECK_BYTES(NSG_MOST_POSITIONS, NSG_MOST_SHARE_BYTES));
+    for (uint64_t i = 0; i < deck.length; i += 8) {
+        const uint64_t number = next_number();
+        memcpy(deck.bytes + i, &number, 8);
+    }
+    memcpy(deck.before, deck.bytes, (size_t)deck.length);
+    test_draw(board, NSG_MOST_POSITIONS - 2, 1, &deck);
+    give_back(&deck);
+}
+
+/* Decks of many shapes: one card, one grid row, grid rows of one card, a last one that is short or whole, and rows of
+   about a block's bytes; each with three lengths of cards, and others for each number of players. */
+static void test_cards(void)
+{
+    static const struct board boards[] = {{0, 1, 1, 1}, {0, 1, 256, 1}, {0, 2, 1, 1}, {0, 6, 4, 1}, {0, 8, 4, 1},
+                                          {0, 72, 24, 1}, {0, 256, 1, 1}, {0, 130, 63, 1}, {0, 128, 64, 1},
+                                          {0, 131, 65, 1}, {0, 257, 256, 1}};
+    static const uint32_t lengths[] = {1, 16, 256, 2, 17, 255, 3, 31, 100, 8, 32, 64, 15, 33, 52};
+    const unsigned count = sizeof boards / sizeof boards[0];
+    for (uint32_t players = NSG_LEAST_PLAYERS; players <= NSG_MOST_PLAYERS; players++) {
+        test_card_lengths(players);
+        for (unsigned i = 0; i < 3 * count; i++) {
+            const struct board board = {players, boards[i / 3].positions, boards[i / 3].width, 1};
+            test_deck(board, lengths[(i + 3 * players) % 15]);
+        }
+    }
+    test_largest_deck();
+    printf("cards: %u decks for each number of players\n", 3 * count);
+}
+
 void test_operations(void)
 {
     static const struct board boards[] = {{2, 6, 4, 1}, {2, 1, 1, 1}, {2, 1, 256, 16}, {2, 64, 12, 1}, {3, 100, 17, 16}, {3, 130, 128, 5},
@@ -226,5 +349,7 @@ void test_operations(void)
         test_dealing(boards[i], boards[i].positions - 1);
         test_dealing(boards[i], next_below(boards[i].positions));
     }
+    test_join_shares();
+    test_cards();
     printf("operations: %u boards\n", (unsigned)(sizeof boards / sizeof boards[0]));
 }

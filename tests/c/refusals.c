@@ -4,19 +4,22 @@
 #include <stdio.h>
 #include <string.h>
 
-enum function { KEY_LENGTH, DEAL, CHECK_KEY, OPEN_ONE, OPEN_ALL, JOIN_SHARES, JOIN_KEYS, EXPAND, CHOOSE_WIDTH, SENSOR_POSITION, FUNCTIONS };
-enum { NUMBERS = 21, FILL = 0x5C };
+enum function { KEY_LENGTH, DEAL, CHECK_KEY, OPEN_ONE, OPEN_ALL, DRAW_CARD, JOIN_SHARES, JOIN_KEYS, EXPAND,
+                CHOOSE_WIDTH, SENSOR_POSITION, FUNCTIONS };
+enum { NUMBERS = 23, FILL = 0x5C };
 
 static const char *const names[FUNCTIONS] = {"nsg_key_length", "nsg_deal", "nsg_check_key", "nsg_open_one", "nsg_open_all",
-                                             "nsg_join_shares", "nsg_join_keys", "nsg_expand", "nsg_choose_width", "nsg_sensor_position"};
+                                             "nsg_draw_card", "nsg_join_shares", "nsg_join_keys", "nsg_expand",
+                                             "nsg_choose_width", "nsg_sensor_position"};
 
-/* Document 01, and request (i) for Deal: which numbers each operation gives. A row ends with 0. */
+/* Document 01, request (i) for Deal and (iii) for Draw card: which numbers each operation gives. A row ends with 0. */
 static const uint8_t given[FUNCTIONS][NUMBERS] = {
     {1, 2, 3, 4, 5},
     {1, 2, 3, 4, 5, 6, 7, 9, 18, 19, 20},
     {1, 2, 3, 4, 5, 10, 11, 12, 13},
     {1, 2, 3, 4, 5, 9, 10, 11, 12, 13, 14},
     {1, 2, 3, 4, 5, 9, 10, 11, 12, 13},
+    {1, 2, 3, 4, 5, 9, 10, 11, 12, 13, 21, 22},
     {1, 4, 7, 9},
     {1, 2, 3, 4, 5, 9, 10, 11, 12, 13, 15},
     {7, 16},
@@ -46,13 +49,15 @@ static void refuse_key_length(uint32_t players, uint32_t positions, uint32_t wid
 static void test_numbers_refused(void)
 {
     static const uint32_t players[] = {0, 1, 7, 256 + 2, UINT32_MAX}, positions[] = {0, 65537, UINT32_MAX}, widths[] = {0, 257, UINT32_MAX};
-    static const uint32_t values[] = {0, 17, 256 + 1, UINT32_MAX}, sensors[] = {72, 73, 256, UINT32_MAX};
+    static const uint32_t values[] = {0, 17, 256, 256 + 1, UINT32_MAX}, sensors[] = {72, 73, 256, UINT32_MAX};
     uint32_t number = 0xDEADBEEF;
     for (int i = 0; i < 5; i++) {
         refuse_key_length(players[i], 72, 24, 1, NSG_REFUSED_PLAYERS);
         refuse_key_length(players[i], 0, 0, 0, NSG_REFUSED_PLAYERS);
         expect(CHOOSE_WIDTH, nsg_choose_width(players[i], 72, &number), NSG_REFUSED_PLAYERS);
         expect(CHOOSE_WIDTH, nsg_choose_width(players[i], 0, &number), NSG_REFUSED_PLAYERS);
+        refuse_key_length(4, 72, 24, values[i], NSG_REFUSED_VALUE_BYTES);
+        refuse_key_length(4, 65536, 255, values[i], NSG_REFUSED_VALUE_BYTES);
     }
     for (int i = 0; i < 3; i++) {
         refuse_key_length(4, positions[i], 24, 1, NSG_REFUSED_POSITIONS);
@@ -61,11 +66,8 @@ static void test_numbers_refused(void)
         refuse_key_length(4, 72, widths[i], 0, NSG_REFUSED_WIDTH);
         expect(CHOOSE_WIDTH, nsg_choose_width(4, positions[i], &number), NSG_REFUSED_POSITIONS);
     }
-    for (int i = 0; i < 4; i++) {
-        refuse_key_length(4, 72, 24, values[i], NSG_REFUSED_VALUE_BYTES);
-        refuse_key_length(4, 65536, 255, values[i], NSG_REFUSED_VALUE_BYTES);
+    for (int i = 0; i < 4; i++)
         expect(SENSOR_POSITION, nsg_sensor_position(sensors[i], &number), NSG_REFUSED_SENSOR);
-    }
     refuse_key_length(4, 65536, 255, 1, NSG_REFUSED_GRID_ROWS);
     refuse_key_length(4, 257, 1, 1, NSG_REFUSED_GRID_ROWS);
     CHECK(number == 0xDEADBEEF);
@@ -252,9 +254,9 @@ static const struct damage damages[] = {
     {10, 4, 2, {0x81, 0x00}},                                     /* the last of the five */
     {10, 0, 6, {0x07, 0x09, 0x00, 0x00, 0x80, 0x00}},             /* all are read before 1 to 5 */
     {1, 0, 1, {0x01}}, {1, 0, 1, {0x00}}, {1, 0, 5, {0x07, 0x09, 0x00, 0x00, 0x00}},
-    {2, 2, 1, {0x00}}, {2, 2, 3, {0x81, 0x80, 0x04}}, {2, 1, 4, {0x09, 0x00, 0x00, 0x00}},
+    {2, 2, 1, {0x00}}, {2, 2, 5, {0x81, 0x80, 0x04, 0x04, 0x01}}, {2, 1, 4, {0x09, 0x00, 0x00, 0x00}},
     {3, 3, 1, {0x00}}, {3, 3, 2, {0x81, 0x02}}, {3, 1, 4, {0x09, 0x06, 0x00, 0x00}},
-    {4, 4, 1, {0x00}}, {4, 4, 1, {0x11}}, {4, 1, 4, {0x09, 0x7F, 0x01, 0x11}},
+    {4, 4, 1, {0x00}}, {4, 4, 1, {0x11}}, {4, 4, 2, {0x80, 0x02}}, {4, 1, 4, {0x09, 0x7F, 0x01, 0x11}},
     {5, 2, 6, {0x80, 0x80, 0x04, 0xFF, 0x01, 0x01}}, {5, 1, 8, {0x09, 0x81, 0x02, 0x01, 0x01, 0x01}},
     {11, 1, 1, {0x02}}, {11, 1, 1, {0x7F}},
     {13, 5, 1, {0x00}}, {13, 5, 1, {0x03}}, {13, 38, 1, {0x00}}, {13, 38, 1, {0x05}}, {13, 38, 1, {0x41}},   /* marks; spare bits */
@@ -269,18 +271,22 @@ static struct lent damaged(const uint8_t *bytes, uint64_t length, uint64_t from,
     return lent;
 }
 
-/* A refused key, in the four calls that take one. Outputs have no room, and the position is none: those come later. */
+/* A refused key, in the five calls that take one. Outputs have no room, the position is none, the card has no bytes and
+   the deck is too long for that: those come later. */
 static void refuse_key(const struct lent *key, uint32_t wanted)
 {
     static const uint32_t untold[NSG_HEADER_NUMBERS] = {1000, 1001, 1002, 1003, 1004};
     uint32_t header[NSG_HEADER_NUMBERS];
-    for (uint64_t room = 0; room <= 6; room += 6) {
+    struct lent deck = lend_filled(0x33, 6);
+    for (uint32_t room = 0; room <= 6; room += 6) {
         struct lent out = lend_filled(FILL, room);
         expect(OPEN_ONE, nsg_open_one(key->bytes, key->length, room == 0 ? 6 : 0, out.bytes, room), wanted);
         expect(OPEN_ALL, nsg_open_all(key->bytes, key->length, out.bytes, room), wanted);
-        CHECK(untouched(&out));
+        expect(DRAW_CARD, draw_card(key, &deck, room / 6, &out), wanted);
+        CHECK(untouched(&out) && untouched(&deck));
         give_back(&out);
     }
+    give_back(&deck);
     memcpy(header, untold, sizeof header);
     expect(CHECK_KEY, nsg_check_key(key->bytes, key->length, header), wanted);
     CHECK(memcmp(header, untold, sizeof header) == 0);
@@ -374,6 +380,99 @@ static void test_keys_refused(void)
     give_back_draw(&draw);
 }
 
+static void refuse_draw(const struct lent *key, uint32_t card_bytes, uint64_t length, uint64_t room, uint32_t wanted)
+{
+    struct lent deck = lend_filled(0x33, length), out = lend_filled(FILL, room);
+    expect(DRAW_CARD, draw_card(key, &deck, card_bytes, &out), wanted);
+    CHECK(untouched(key) && untouched(&deck) && untouched(&out));
+    give_back(&deck);
+    give_back(&out);
+}
+
+/* A card and a deck that do not go together: 22 with enough room and with none. */
+static void refuse_deck(const struct lent *key, uint32_t card_bytes, uint64_t length)
+{
+    refuse_draw(key, card_bytes, length, 600, NSG_REFUSED_DECK);
+    refuse_draw(key, card_bytes, length, 0, NSG_REFUSED_DECK);
+}
+
+/* 21: keys of every other width of values, with all that comes later right and wrong. Check key's own come before
+   it. */
+static void test_wide_keys_refused(void)
+{
+    static const struct damage player = {11, 1, 1, {0x03}}, marks = {13, 5, 1, {0x00}};
+    for (uint32_t width = 2; width <= NSG_MOST_VALUE_BYTES; width++) {
+        struct draw draw = draw_dealing((struct board){3, 6, 4, width}, 4);
+        struct lent keys = dealt_keys(&draw), key = lend(keys.bytes, key_length(draw.board));
+        struct lent of_none = damaged(key.bytes, key.length, 0, &player), cut = lend(key.bytes, key.length - 1);
+        struct lent unmarked = damaged(key.bytes, key.length, 0, &marks);
+        refuse_draw(&of_none, 0, 0, 0, NSG_REFUSED_PLAYER);
+        refuse_draw(&cut, 0, 0, 0, NSG_REFUSED_LENGTH);
+        refuse_draw(&unmarked, 0, 0, 0, NSG_REFUSED_MARKS);
+        give_back(&unmarked);
+        give_back(&cut);
+        give_back(&of_none);
+        refuse_draw(&key, 1, 6, 1, NSG_REFUSED_CARD_KEY);
+        refuse_draw(&key, width, 6 * width, width, NSG_REFUSED_CARD_KEY);
+        refuse_draw(&key, 256, 6 * 256, 255, NSG_REFUSED_CARD_KEY);
+        refuse_draw(&key, 1, 5, 1, NSG_REFUSED_CARD_KEY);
+        refuse_draw(&key, 0, 0, 0, NSG_REFUSED_CARD_KEY);
+        refuse_draw(&key, 257, 6 * 257, 257, NSG_REFUSED_CARD_KEY);
+        refuse_draw(&key, UINT32_MAX, 0, 0, NSG_REFUSED_CARD_KEY);
+        give_back(&key);
+        give_back(&keys);
+        give_back_draw(&draw);
+    }
+}
+
+/* 22 for one key: lengths of a card that are none, with decks that have them and others; decks of lengths beside the
+   right one. 9: an output a byte short, and none. */
+static void refuse_decks(const struct lent *key, uint32_t positions)
+{
+    static const uint32_t others[] = {0, 257, 258, 512, 1u << 16, (1u << 16) + 1, 1u << 31, UINT32_MAX};
+    for (unsigned i = 0; i < sizeof others / sizeof others[0]; i++) {
+        refuse_deck(key, others[i], 0);
+        refuse_deck(key, others[i], positions);
+        refuse_deck(key, others[i], positions * 256);
+        if (others[i] <= 512)
+            refuse_deck(key, others[i], positions * others[i]);
+    }
+    for (uint32_t card_bytes = 1; card_bytes <= NSG_MOST_SHARE_BYTES; card_bytes += card_bytes < 17 ? 1 : 239) {
+        const uint32_t right = NSG_DECK_BYTES(positions, card_bytes);
+        refuse_deck(key, card_bytes, 0);
+        refuse_deck(key, card_bytes, right - 1);
+        refuse_deck(key, card_bytes, right + 1);
+        refuse_deck(key, card_bytes, right - card_bytes);
+        refuse_deck(key, card_bytes, right + card_bytes);
+        refuse_draw(key, card_bytes, right, card_bytes - 1, NSG_REFUSED_ROOM);
+        refuse_draw(key, card_bytes, right, 0, NSG_REFUSED_ROOM);
+    }
+}
+
+/* Boards of 1 to 65,536 positions, each with a card so long that all cards together have the deck's bytes, as they are
+   or modulo 2^32. */
+static void test_draws_refused(void)
+{
+    static const struct { struct board board; uint32_t card_bytes, length; } decks[] = {
+        {{2, 1, 1, 1}, 257, 257}, {{2, 6, 4, 1}, 715827883, 2}, {{4, 6, 4, 1}, 715827884, 8},
+        {{3, 256, 16, 1}, 1u << 24, 0}, {{3, 256, 16, 1}, (1u << 24) + 1, 256},
+        {{2, 65536, 256, 1}, 1u << 16, 0}, {{2, 65536, 256, 1}, (1u << 16) + 1, 1u << 16},
+    };
+    test_wide_keys_refused();
+    for (unsigned i = 0; i < sizeof decks / sizeof decks[0]; i++) {
+        const struct board board = decks[i].board;
+        struct draw draw = draw_dealing(board, board.positions - 1);
+        struct lent keys = dealt_keys(&draw), key = lend(keys.bytes, key_length(board));
+        CHECK(board.positions * decks[i].card_bytes == decks[i].length);
+        refuse_deck(&key, decks[i].card_bytes, decks[i].length);
+        if (board.positions <= 256)
+            refuse_decks(&key, board.positions);
+        give_back(&key);
+        give_back(&keys);
+        give_back_draw(&draw);
+    }
+}
+
 static void refuse_shares(uint32_t players, uint32_t value_bytes, uint64_t length, uint64_t room, uint32_t wanted)
 {
     struct lent shares = lend_filled(0x33, length), out = lend_filled(FILL, room);
@@ -432,12 +531,23 @@ static void test_shares_refused(void)
     refuse_shares(1, 0, 3, 0, NSG_REFUSED_PLAYERS);
     refuse_shares(7, 2, 14, 2, NSG_REFUSED_PLAYERS);
     refuse_shares(3, 0, 3, 0, NSG_REFUSED_VALUE_BYTES);
-    refuse_shares(3, 17, 51, 17, NSG_REFUSED_VALUE_BYTES);
+    refuse_shares(3, 257, 3 * 257, 257, NSG_REFUSED_VALUE_BYTES);
+    refuse_shares(3, 257, 0, 0, NSG_REFUSED_VALUE_BYTES);
+    refuse_shares(2, 512, 2 * 512, 512, NSG_REFUSED_VALUE_BYTES);
+    refuse_shares(2, (1u << 16) + 1, 2, 1, NSG_REFUSED_VALUE_BYTES);
+    refuse_shares(2, (1u << 31) + 1, 2, 1, NSG_REFUSED_VALUE_BYTES);   /* twice that is 2^32 + 2 */
+    refuse_shares(6, UINT32_MAX, 6, 1, NSG_REFUSED_VALUE_BYTES);
+    refuse_shares(7, 257, 7 * 257, 257, NSG_REFUSED_PLAYERS);
     refuse_shares(3, 2, 5, 0, NSG_REFUSED_LENT);
     refuse_shares(3, 2, 7, 2, NSG_REFUSED_LENT);
     refuse_shares(3, 2, 0, 2, NSG_REFUSED_LENT);
     refuse_shares(3, 2, 6, 1, NSG_REFUSED_ROOM);
     refuse_shares(6, 16, 96, 0, NSG_REFUSED_ROOM);
+    refuse_shares(3, 17, 50, 17, NSG_REFUSED_LENT);
+    refuse_shares(3, 17, 51, 16, NSG_REFUSED_ROOM);
+    refuse_shares(6, 256, 6 * 256 - 1, 256, NSG_REFUSED_LENT);
+    refuse_shares(6, 256, 6 * 256 + 1, 0, NSG_REFUSED_LENT);
+    refuse_shares(6, 256, 6 * 256, 255, NSG_REFUSED_ROOM);
 }
 
 void test_refusals(void)
@@ -445,6 +555,7 @@ void test_refusals(void)
     test_numbers_refused();
     test_deal_refused();
     test_keys_refused();
+    test_draws_refused();
     test_shares_refused();
     test_seeds_refused();
     for (int f = 0; f < FUNCTIONS; f++) {

@@ -6,6 +6,7 @@
                          nsg_deal              the value, the seeds and the words
                          nsg_check_key, nsg_held_seed, nsg_open_one, nsg_open_all, nsg_join_keys
                                                of a key all but the header and the marks: the seeds and the words
+                         nsg_draw_card         the same of the key, and the deck
                          nsg_join_shares       the shares
                          nsg_expand            the seed
                        What the calls write shows that something was marked: it must be undefined bit for bit where it is secret and
@@ -79,6 +80,26 @@ static uint32_t next_position(struct board board, uint32_t position)
 
 /* ---- what must cause no report */
 
+/* Shares of more bytes than a value has, as answers for cards are. */
+static void test_wide_shares(void)
+{
+    static const uint32_t widths[] = {17, 63, 64, 100, 255, 256};
+    for (uint32_t players = NSG_LEAST_PLAYERS; players <= NSG_MOST_PLAYERS; players++)
+        for (unsigned i = 0; i < sizeof widths / sizeof widths[0]; i++) {
+            const uint32_t width = widths[i];
+            struct lent shares = lend_drawn(players * width), out = lend_filled(FILL, width);
+            struct lent wanted = lend_filled(0, width);
+            for (uint64_t j = 0; j < shares.length; j++)
+                wanted.bytes[j % width] ^= shares.bytes[j];
+            hide(shares.bytes, shares.length);
+            CHECK(quietly(nsg_join_shares(players, width, shares.bytes, shares.length, out.bytes, width), 0));
+            CHECK(secret(out.bytes, out.length, undefined, wanted.bytes));
+            give_back(&shares);
+            give_back(&out);
+            give_back(&wanted);
+        }
+}
+
 static void test_expand(void)
 {
     static const uint64_t lengths[] = {0, 1, 63, 64, 65, 256, 257, 320, 321, 384, 385, 640, 4095, 4096};
@@ -98,6 +119,37 @@ static void test_expand(void)
     CHECK(quietly(nsg_expand(seed.bytes, seed.length, UINT64_MAX, wanted.bytes, wanted.length), NSG_REFUSED_EXPANSION));
     give_back(&seed);
     give_back(&wanted);
+}
+
+/* What a key answers for a card. All players hold the deck, yet it is marked too: nothing has to depend on it. Keys
+   with more value bytes than one are refused. `known` has the key's bytes, defined. */
+static void test_answer(struct board board, const struct lent *key, const uint8_t *known, uint32_t card_bytes)
+{
+    struct lent deck = lend_drawn(NSG_DECK_BYTES(board.positions, card_bytes)), out = lend_filled(FILL, card_bytes);
+    struct lent wanted = lend_filled(FILL, card_bytes), own = lend(known, key->length);
+    const uint32_t first = board.value_bytes == 1 ? NSG_ACCEPTED : NSG_REFUSED_CARD_KEY;
+    CHECK(draw_card(&own, &deck, card_bytes, &wanted) == first);
+    hide(deck.bytes, deck.length);
+    CHECK(quietly(draw_card(key, &deck, card_bytes, &out), first));
+    if (first == NSG_ACCEPTED)
+        CHECK(secret(out.bytes, out.length, undefined, wanted.bytes));
+    out.length--;
+    CHECK(quietly(draw_card(key, &deck, card_bytes, &out), first == NSG_ACCEPTED ? NSG_REFUSED_ROOM : first));
+    deck.length--;
+    CHECK(quietly(draw_card(key, &deck, card_bytes, &out), first == NSG_ACCEPTED ? NSG_REFUSED_DECK : first));
+    give_back(&own);
+    give_back(&wanted);
+    give_back(&out);
+    give_back(&deck);
+}
+
+/* Cards of several lengths, fewer from a large deck. */
+static void test_answers(struct board board, const struct lent *key, const uint8_t *known)
+{
+    static const uint32_t lengths[] = {1, 16, 256, 2, 15, 17, 33, 64, 255};
+    const unsigned count = board.positions > 64 ? 3 : sizeof lengths / sizeof lengths[0];
+    for (unsigned i = 0; i < (board.value_bytes == 1 ? count : 1); i++)
+        test_answer(board, key, known, lengths[i]);
 }
 
 /* One key: what is read of it, where its seeds are, its table, and squares opened alone. `known` has the same bytes, defined. */
@@ -122,6 +174,7 @@ static void test_key(struct board board, const struct lent *key, const uint8_t *
         CHECK(secret(share.bytes, share.length, undefined, wanted.bytes + position * board.value_bytes));
         give_back(&share);
     }
+    test_answers(board, key, known);
     CHECK(quietly(nsg_open_one(key->bytes, key->length, board.positions, table->bytes, table->length), NSG_REFUSED_POSITION));
     CHECK(quietly(nsg_open_all(key->bytes, key->length, table->bytes, table->length - 1), NSG_REFUSED_ROOM));
     CHECK(quietly(nsg_open_all(key->bytes, key->length - 1, table->bytes, table->length), NSG_REFUSED_LENGTH));
@@ -214,6 +267,7 @@ static void test_key_depends(struct board board, const struct lent *known, struc
     CHECK(reported(nsg_held_seed(keys.bytes, length, 0, 0)));
     CHECK(reported(nsg_open_one(keys.bytes, length, 0, table.bytes, table.length)));
     CHECK(reported(nsg_open_all(keys.bytes, length, table.bytes, table.length)));
+    CHECK(reported(nsg_draw_card(keys.bytes, length, known->bytes, board.positions, 1, table.bytes, table.length)));
     CHECK(reported(nsg_join_keys(keys.bytes, keys.length, table.bytes, table.length)));
     give_back(&table);
     give_back(&keys);
@@ -260,9 +314,11 @@ static void test_depends(struct board board, uint32_t point)
 int main(int count, char **words)
 {
     /* Positions, width and value bytes, for every number of players. Rows of less than a block, of one, of two, of four
-       and of more, whole and cut, and the longest; three grid rows each, the last one short. */
+       and of more, whole and cut, and the longest; three grid rows each, the last one short. Cards are drawn on those
+       with values of one byte. */
     static const struct board boards[] = {{0, 11, 4, 1}, {0, 28, 12, 5}, {0, 10, 4, 16}, {0, 40, 17, 5}, {0, 41, 20, 16},
-                                          {0, 150, 72, 5}, {0, 200, 90, 5}, {0, 520, 255, 1}, {0, 520, 256, 16}};
+                                          {0, 150, 72, 5}, {0, 200, 90, 5}, {0, 130, 64, 1}, {0, 520, 255, 1},
+                                          {0, 520, 256, 1}, {0, 520, 256, 16}};
     const int depends = count == 2 && strcmp(words[1], "depends") == 0;
     unsigned dealings = 0;
     if (!RUNNING_ON_VALGRIND) {
@@ -277,8 +333,10 @@ int main(int count, char **words)
             for (unsigned j = 0; j < 3 && checks_failed == 0; j++, dealings++)
                 (depends ? test_depends : test_dealing)(board, points[j]);
         }
-    if (!depends)
+    if (!depends) {
         test_expand();
+        test_wide_shares();
+    }
     printf("secrets%s: %u dealings; %lu checks, %lu failed\n", depends ? " depends" : "", dealings, checks_made, checks_failed);
     return checks_failed != 0;
 }

@@ -1,12 +1,13 @@
-/* How much stack each call uses: it runs once on a painted stack of its own, and the paint that is gone is counted. A call of nothing is
-   measured first and taken off. Fails where a call is refused, but for the one that has to be, or needs more than NSG_STACK_BYTES. */
+/* How much stack each call uses: it runs once on a painted stack of its own, and the paint that is gone is counted. A
+   call of nothing is measured first and taken off. Fails where a call is refused, but for the one that has to be, or
+   needs more than NSG_STACK_BYTES; where a draw, which keeps no table, needs more than DRAW_STACK. */
 #define _XOPEN_SOURCE 600
 #include "common.h"
 #include <stdio.h>
 #include <string.h>
 #include <ucontext.h>
 
-enum { STACK = 256 * 1024, PAINT = 0xB7 };
+enum { STACK = 256 * 1024, PAINT = 0xB7, DRAW_STACK = 4096 };
 
 static uint8_t stack[STACK];
 static ucontext_t outside, inside;
@@ -17,6 +18,10 @@ static struct draw draw, spoiled, narrow;
 static struct lent keys, across, table, fault;
 static uint32_t length, number, header[NSG_HEADER_NUMBERS], answer;
 
+/* A player's key, a deck and a card's length, for a draw. */
+static struct lent key, deck;
+static uint32_t card_bytes;
+
 static void call_nothing(void) { answer = NSG_ACCEPTED; }
 static void call_key_length(void) { answer = nsg_key_length(6, 1024, 256, 16, &number); }
 static void call_deal(void) { answer = deal(&draw, &keys, &fault); }
@@ -25,7 +30,9 @@ static void call_check_key(void) { answer = nsg_check_key(keys.bytes, length, he
 static void call_open_one(void) { answer = nsg_open_one(keys.bytes, length, 1023, table.bytes, table.length); }
 static void call_open_across(void) { answer = nsg_open_one(across.bytes, across.length, 4, table.bytes, table.length); }
 static void call_open_all(void) { answer = nsg_open_all(keys.bytes, length, table.bytes, table.length); }
+static void call_draw_card(void) { answer = draw_card(&key, &deck, card_bytes, &table); }
 static void call_join_shares(void) { answer = nsg_join_shares(6, 16, keys.bytes, 6 * 16, table.bytes, table.length); }
+static void call_join_wide(void) { answer = nsg_join_shares(6, 256, keys.bytes, 6 * 256, table.bytes, table.length); }
 static void call_join_keys(void) { answer = nsg_join_keys(keys.bytes, keys.length, table.bytes, table.length); }
 static void call_held_seed(void) { answer = nsg_held_seed(keys.bytes, length, 3, 31) + nsg_held_seed(keys.bytes, length, 3, 30) == 0; }
 static void call_expand(void) { answer = nsg_expand(draw.seeds.bytes, 32, 0, table.bytes, NSG_MOST_EXPANDED_BYTES); }
@@ -39,7 +46,8 @@ static const struct {
 } calls[] = {{"nsg_key_length", call_key_length}, {"nsg_deal", call_deal}, {"nsg_deal, refused for a column", call_bad_deal},
              {"nsg_check_key", call_check_key}, {"nsg_open_one", call_open_one},
              {"nsg_open_one, three players, a cell in two blocks", call_open_across}, {"nsg_open_all", call_open_all},
-             {"nsg_join_shares", call_join_shares}, {"nsg_join_keys", call_join_keys}, {"nsg_held_seed", call_held_seed},
+             {"nsg_join_shares", call_join_shares}, {"nsg_join_shares, of the widest shares", call_join_wide},
+             {"nsg_join_keys", call_join_keys}, {"nsg_held_seed", call_held_seed},
              {"nsg_expand", call_expand}, {"nsg_expand, from within a block", call_expand_later},
              {"nsg_choose_width", call_choose_width}, {"nsg_sensor_position", call_sensor_position}};
 
@@ -58,6 +66,37 @@ static unsigned used_by(void (*call)(void))
     while (untouched_bytes < STACK && stack[untouched_bytes] == PAINT)
         untouched_bytes++;
     return STACK - untouched_bytes;
+}
+
+/* The most that a draw uses: two, three and six players, who hold one seed of a grid row, two and sixteen, draw from
+   decks of one grid row and of many, cards of one byte to the longest. */
+static unsigned used_by_draws(unsigned nothing)
+{
+    static const struct board boards[] = {{2, 1, 1, 1}, {2, 65536, 256, 1}, {3, 1000, 256, 1}, {3, 100, 7, 1},
+                                          {6, 1024, 256, 1}};
+    static const uint32_t lengths[] = {1, 15, 16, 17, 256};
+    unsigned most = 0;
+    for (unsigned i = 0; i < 5; i++) {
+        struct draw cards = draw_dealing(boards[i], 0);
+        unsigned here = 0;
+        key = dealt_keys(&cards);
+        key.length = key_length(boards[i]);   /* player 0's */
+        for (unsigned j = 0; j < 5; j++) {
+            card_bytes = lengths[j];
+            deck = lend_filled(0x6D, NSG_DECK_BYTES(boards[i].positions, card_bytes));
+            unsigned used = used_by(call_draw_card) - nothing;
+            CHECK(answer == NSG_ACCEPTED);
+            CHECK(used <= DRAW_STACK);
+            here = used > here ? used : here;
+            give_back(&deck);
+        }
+        printf("stack: nsg_draw_card, players: %u, positions: %u, width: %u   %6u bytes\n", (unsigned)boards[i].players,
+               (unsigned)boards[i].positions, (unsigned)boards[i].width, here);
+        most = here > most ? here : most;
+        give_back(&key);
+        give_back_draw(&cards);
+    }
+    return most;
 }
 
 int main(void)
@@ -80,6 +119,8 @@ int main(void)
         most = used > most ? used : most;
         printf("stack: %-30s %6u bytes\n", calls[i].name, used);
     }
+    unsigned drawing = used_by_draws(nothing);
+    most = drawing > most ? drawing : most;
     printf("stack: at most %u bytes, %u allowed; %lu checks, %lu failed\n", most, NSG_STACK_BYTES, checks_made, checks_failed);
     give_back(&fault);
     give_back(&table);

@@ -5,11 +5,12 @@
 #include <stdio.h>
 #include <string.h>
 
-enum { THREADS = 8, ROUNDS = 12, BOARDS = 4 };
+enum { THREADS = 8, ROUNDS = 12, BOARDS = 4, CARD = 52 };
 
 static struct draw draws[BOARDS];
 static struct lent keys[BOARDS], tables[BOARDS], joined[BOARDS];   /* as one thread alone got them */
 static struct lent spoiled[BOARDS];                                /* arrays whose last column stands twice */
+static struct lent decks[BOARDS], cards[BOARDS];                   /* zeros where values are wide: no card is drawn */
 static pthread_barrier_t start;
 
 struct work {
@@ -43,19 +44,29 @@ static unsigned refusals_differing(unsigned i, struct lent *own)
     return differing;
 }
 
-/* One board: deals, opens player 0's table and squares of it, joins; counts answers and bytes that differ. */
+/* A card drawn with player 0's key: whether the answer is the one wanted. */
+static int draws_card(unsigned i, uint64_t length, uint8_t *card)
+{
+    const uint32_t wanted = draws[i].board.value_bytes == 1 ? NSG_ACCEPTED : NSG_REFUSED_CARD_KEY;
+    return nsg_draw_card(keys[i].bytes, length, decks[i].bytes, decks[i].length, CARD, card, CARD) == wanted;
+}
+
+/* One board: deals, opens player 0's table and squares of it, draws a card, joins; counts answers and bytes that
+   differ. */
 static unsigned differences(unsigned i)
 {
     const struct board board = draws[i].board;
     struct lent own = lend_filled(0, keys[i].length), table = lend_filled(0, tables[i].length), whole = lend_filled(0, joined[i].length);
     struct lent fault = lend_fault();
     uint64_t length = keys[i].length / board.players;
+    uint8_t card[CARD] = {0};
     unsigned differing = refusals_differing(i, &own);
     differing += deal(&draws[i], &own, &fault) != NSG_ACCEPTED;
     differing += memcmp(own.bytes, keys[i].bytes, (size_t)own.length) != 0 || !untouched(&fault);
     differing += nsg_open_all(keys[i].bytes, length, table.bytes, table.length) != NSG_ACCEPTED;
     differing += memcmp(table.bytes, tables[i].bytes, (size_t)table.length) != 0;
     differing += squares_differing(i, length);
+    differing += !draws_card(i, length, card) || memcmp(card, cards[i].bytes, CARD) != 0;
     differing += nsg_join_keys(keys[i].bytes, keys[i].length, whole.bytes, whole.length) != NSG_ACCEPTED;
     differing += memcmp(whole.bytes, joined[i].bytes, (size_t)whole.length) != 0;
     differing += nsg_open_all(keys[i].bytes, length - 1, table.bytes, table.length) != NSG_REFUSED_LENGTH;
@@ -88,6 +99,9 @@ void test_threads(void)
         joined[i] = lend_filled(0, tables[i].length);
         CHECK(nsg_open_all(keys[i].bytes, key_length(boards[i]), tables[i].bytes, tables[i].length) == NSG_ACCEPTED);
         CHECK(nsg_join_keys(keys[i].bytes, keys[i].length, joined[i].bytes, joined[i].length) == NSG_ACCEPTED);
+        decks[i] = lend_drawn(NSG_DECK_BYTES(boards[i].positions, CARD));
+        cards[i] = lend_filled(0, CARD);
+        CHECK(draws_card(i, key_length(boards[i]), cards[i].bytes));
     }
     CHECK(pthread_barrier_init(&start, NULL, THREADS) == 0);
     for (unsigned t = 0; t < THREADS; t++) {
@@ -106,6 +120,8 @@ void test_threads(void)
         give_back(&spoiled[i]);
         give_back(&tables[i]);
         give_back(&joined[i]);
+        give_back(&decks[i]);
+        give_back(&cards[i]);
     }
     printf("threads: %u threads, %u rounds each\n", (unsigned)THREADS, (unsigned)ROUNDS);
 }

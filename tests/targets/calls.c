@@ -83,7 +83,8 @@ static void record_bytes(const uint8_t *bytes, uint32_t length) { digest = mixed
 
 /* ---- the comparison's data; reference/FORMAT.md says how it is written */
 
-enum { KEY_LENGTH = 1, DEAL, CHECK_KEY, OPEN_ONE, OPEN_ALL, JOIN_SHARES, JOIN_KEYS, HELD_SEED, EXPAND, CHOOSE_WIDTH, SENSOR_POSITION };
+enum { KEY_LENGTH = 1, DEAL, CHECK_KEY, OPEN_ONE, OPEN_ALL, JOIN_SHARES, JOIN_KEYS, HELD_SEED, EXPAND, CHOOSE_WIDTH,
+       SENSOR_POSITION, DEALING_PROGRAM, JOINING_PROGRAM, DRAW_CARD };
 enum { FILE_HEAD = 24, CASE_HEAD = 68, UNTOUCHED = 0x0BADCAFE };
 
 struct one_case {
@@ -160,6 +161,7 @@ static uint32_t call(const struct one_case *c, const uint8_t *input, uint8_t *ou
     case EXPAND: return nsg_expand(input, l[0], (uint64_t)in[1] << 32 | in[0], out, c->lent);
     case CHOOSE_WIDTH: return nsg_choose_width(in[0], in[1], numbers);
     case SENSOR_POSITION: return nsg_sensor_position(in[0], numbers);
+    case DRAW_CARD: return nsg_draw_card(input, l[0], input + l[0], l[1], in[0], out, c->lent);
     }
     return UNTOUCHED;
 }
@@ -216,7 +218,8 @@ static uint32_t same_as_stored(const struct one_case *c, uint32_t inputs)
 static void run_cases(void)
 {
     uint8_t head[FILE_HEAD];
-    uint32_t cases, called = 0, equal = 0, programs = 0, too_large = 0, refused = 0, places = 0, held = 0, inputs = 0;
+    uint32_t cases, called = 0, equal = 0, programs = 0, too_large = 0, refused = 0, places = 0, cards = 0;
+    uint32_t held = 0, inputs = 0;
     take(head, FILE_HEAD);
     cases = number_at(head + 8);
     for (uint32_t i = 0; i < cases; i++) {
@@ -229,7 +232,7 @@ static void run_cases(void)
             else
                 pass_over(inputs);
         }
-        if (c.operation > SENSOR_POSITION) {
+        if (c.operation == DEALING_PROGRAM || c.operation == JOINING_PROGRAM) {
             programs++;
             pass_over(c.answered);
         } else if (!held || c.lent > ROOM - inputs) {
@@ -239,6 +242,7 @@ static void run_cases(void)
             called++;
             refused += c.refusal != 0;
             places += has_place(&c);
+            cards += c.operation == DRAW_CARD && c.refusal == 0;
             if (same_as_stored(&c, inputs)) {
                 equal++;
             } else {
@@ -250,14 +254,16 @@ static void run_cases(void)
             }
         }
     }
-    wrong += called - equal + (called == 0) + (places == 0);
+    wrong += called - equal + (called == 0) + (places == 0) + (cards == 0);
     text("cases: ");
     decimal(called);
     text(" called, of which ");
     decimal(refused);
     text(" are refused, ");
     decimal(places);
-    text(" with a place; ");
+    text(" with a place, and ");
+    decimal(cards);
+    text(" draw a card; ");
     decimal(equal);
     text(" equal; left out ");
     decimal(programs);
@@ -272,6 +278,7 @@ static void run_cases(void)
 
 enum { PLAYERS = NSG_MOST_PLAYERS, POSITIONS = NSG_MOST_POSITIONS, WIDTH = NSG_MOST_WIDTH, VALUE_BYTES = NSG_MOST_VALUE_BYTES };
 enum { SEED = NSG_SEED_BYTES, ROW_BYTES = NSG_MOST_EXPANDED_BYTES, BLOCK = 64, CALLS_IN_A_LINE = 5000 };
+enum { SHARE_BYTES = NSG_MOST_SHARE_BYTES };
 
 static uint64_t state;
 static uint32_t calls;
@@ -471,15 +478,110 @@ static uint32_t keys_join(const struct dealing *d, uint32_t limit)
     return good;
 }
 
+/* What was met of cards and of joined shares, a bit for each; it must be all. */
+static uint32_t cards_met;
+
+enum { ODD_VALUE = 1, EVEN_VALUE = 2, CARD_OF_1 = 4, CARD_OF_256 = 8, CARD_OF_257 = 16, WIDE_KEY = 32, OTHER_DECK = 64,
+       WRAPPED_DECK = 128, CARD_WITHOUT_ROOM = 256, SHARES_OF_256 = 512, SHARES_OF_257 = 1024, ALL_CARDS = 2047 };
+
+static void meet(uint32_t what, uint32_t met) { cards_met |= met ? what : 0; }
+
+/* Draws a deck: eight bytes of each number. */
+static void draw_deck(uint8_t *deck, uint32_t length)
+{
+    uint64_t number = 0;
+    for (uint32_t i = 0; i < length; i++, number >>= 8) {
+        if (i % 8 == 0)
+            number = next();
+        deck[i] = (uint8_t)number;
+    }
+}
+
+/* A card drawn by every player, and the answers joined, in the rest of the room: 1 where that is the card at the point
+   for an odd value and zeros for an even one, or where values are wider or there is no room. */
+static uint32_t cards_join(const struct dealing *d, uint32_t limit)
+{
+    uint32_t most = (limit - d->rest) / (d->positions + d->players + 1), odd = room[0] & 1, good = 1, bytes, deck_bytes;
+    uint8_t *key = room + d->keys, *deck = room + d->rest, *answers, *card;
+    if (d->value_bytes != 1 || most == 0)
+        return 1;
+    most = most < SHARE_BYTES ? most : SHARE_BYTES;
+    bytes = below(4) == 0 ? most : 1 + below(most);
+    deck_bytes = d->positions * bytes;
+    answers = deck + deck_bytes;
+    card = answers + d->players * bytes;
+    draw_deck(deck, deck_bytes);
+    fill(answers, (d->players + 1) * bytes, 0x22);
+    for (uint32_t i = 0; i < d->players; i++, key += d->key_bytes)
+        good &= called(nsg_draw_card(key, d->key_bytes, deck, deck_bytes, bytes, answers + i * bytes, bytes)) == 0;
+    good &= called(nsg_join_shares(d->players, bytes, answers, (uint64_t)d->players * bytes, card, bytes)) == 0;
+    record_bytes(answers, (d->players + 1) * bytes);
+    for (uint32_t i = 0; i < bytes; i++)
+        good &= card[i] == (odd ? deck[d->point * bytes + i] : 0);
+    meet(odd ? ODD_VALUE : EVEN_VALUE, 1);
+    meet(CARD_OF_1, bytes == 1);
+    meet(CARD_OF_256, bytes == SHARE_BYTES);
+    return good;
+}
+
+/* The bytes of a card: mostly one of the lengths that there are, and whose deck fits; else none, one too many, so many
+   that all cards together have 2^32 bytes more than a short deck, or any number. */
+static uint32_t draw_card_bytes(uint32_t positions, uint32_t left)
+{
+    uint32_t most = left / positions;
+    switch (below(8)) {
+    case 0: return below(2) * (SHARE_BYTES + 1);
+    case 1: return (uint32_t)-1 / positions + 1 + below(2);
+    case 2: return (uint32_t)(next() >> below(64));
+    }
+    return 1 + below(most == 0 ? 1 : most < SHARE_BYTES ? most : SHARE_BYTES);
+}
+
+/* A card asked of a key that Check key gives this answer and this header, with a deck of about the right length in the
+   rest of the room: the number is the first that fits. */
+static void try_card(const struct dealing *d, const uint8_t *key, uint32_t key_bytes, uint32_t limit, uint32_t answer,
+                     const uint32_t header[5])
+{
+    enum { OUT = SHARE_BYTES + 2 };
+    uint32_t left = limit - d->rest, bytes, deck_bytes, out_bytes, written, all;
+    uint8_t *out = room + d->rest, *deck = out + OUT;
+    if (left < OUT)
+        return;
+    left -= OUT;
+    bytes = draw_card_bytes(d->positions, left);
+    all = d->positions * bytes;   /* modulo 2^32 */
+    deck_bytes = below(4) == 0 ? all + below(3) - 1 : all;
+    deck_bytes = deck_bytes < left ? deck_bytes : left;
+    out_bytes = (bytes < OUT ? bytes : OUT) - (bytes != 0 && below(8) == 0);
+    if (answer == NSG_ACCEPTED && header[4] != 1)
+        answer = NSG_REFUSED_CARD_KEY;
+    if (answer == NSG_ACCEPTED && (bytes == 0 || bytes > SHARE_BYTES || deck_bytes != header[2] * bytes))
+        answer = NSG_REFUSED_DECK;
+    if (answer == NSG_ACCEPTED && out_bytes < bytes)
+        answer = NSG_REFUSED_ROOM;
+    draw_deck(deck, deck_bytes);
+    fill(out, OUT, 0xCC);
+    wrong += called(nsg_draw_card(key, key_bytes, deck, deck_bytes, bytes, out, out_bytes)) != answer;
+    written = answer == NSG_ACCEPTED ? bytes : 0;
+    wrong += !all_are(out + written, OUT - written, 0xCC);
+    record_bytes(out, OUT);
+    meet(WIDE_KEY, answer == NSG_REFUSED_CARD_KEY);
+    meet(CARD_WITHOUT_ROOM, answer == NSG_REFUSED_ROOM);
+    meet(CARD_OF_257, answer == NSG_REFUSED_DECK && bytes == SHARE_BYTES + 1);
+    meet(OTHER_DECK, answer == NSG_REFUSED_DECK && bytes - 1 < SHARE_BYTES);
+    meet(WRAPPED_DECK, answer == NSG_REFUSED_DECK && bytes > (uint32_t)-1 / d->positions && deck_bytes == all);
+}
+
 /* Every call on one player's key, of any length and with any bytes, accepted or refused. */
 static void try_key(const struct dealing *d, const uint8_t *key, uint32_t key_bytes, uint32_t limit)
 {
     uint32_t header[5] = {UNTOUCHED, UNTOUCHED, UNTOUCHED, UNTOUCHED, UNTOUCHED}, w = d->value_bytes;
     uint32_t table_bytes = d->positions * w + below(3);
     uint8_t share[VALUE_BYTES + 1], *table = room + d->rest;
-    called(nsg_check_key(key, key_bytes, header));
+    uint32_t answer = called(nsg_check_key(key, key_bytes, header));
     for (uint32_t i = 0; i < 5; i++)
         record_number(header[i]);
+    try_card(d, key, key_bytes, limit, answer, header);
     fill(share, sizeof share, 0x77);
     called(nsg_open_one(key, key_bytes, below(d->positions + 1), share, w - (below(8) == 0)));
     record_bytes(share, sizeof share);
@@ -535,6 +637,7 @@ static void random_dealing(uint32_t limit)
     wrong += !square_joins(&d, below(d.positions));
     wrong += !square_in_two_blocks_joins(&d);
     wrong += !keys_join(&d, limit);
+    wrong += !cards_join(&d, limit);
     key = room + d.keys + below(d.players) * d.key_bytes;
     try_key(&d, key, d.key_bytes, limit);
     /* a change of the header and the first marks comes as often as one anywhere */
@@ -591,10 +694,38 @@ static void try_expand(void)
     }
 }
 
+/* Joins shares, of as many bytes as values have or as cards have, mostly in the right length: the number is the first
+   that fits, and what is written their XOR. */
+static void try_join_shares(void)
+{
+    enum { MOST = PLAYERS + 1, OUT = SHARE_BYTES + 2 };
+    uint32_t bytes = below(4) == 0 ? SHARE_BYTES + below(2) : below(below(2) == 0 ? VALUE_BYTES + 2 : OUT + 1);
+    uint32_t players = below(MOST + 1), answer = NSG_ACCEPTED;
+    uint32_t length = below(4) == 0 ? below(MOST * OUT) : players * bytes, out_bytes = below(4) == 0 ? below(OUT) : OUT;
+    uint8_t *out = room + MOST * OUT;
+    draw(room, MOST * OUT);
+    fill(out, OUT, 0xBB);
+    if (out_bytes < bytes)
+        answer = NSG_REFUSED_ROOM;
+    if (length != players * bytes)
+        answer = NSG_REFUSED_LENT;
+    if (bytes == 0 || bytes > SHARE_BYTES)
+        answer = NSG_REFUSED_VALUE_BYTES;
+    if (players < 2 || players > PLAYERS)
+        answer = NSG_REFUSED_PLAYERS;
+    wrong += called(nsg_join_shares(players, bytes, room, length, out, out_bytes)) != answer;
+    record_bytes(out, OUT);
+    for (uint32_t i = 0; answer == NSG_ACCEPTED && i < length; i++)
+        out[i % bytes] ^= room[i];
+    wrong += answer == NSG_ACCEPTED && !all_are(out, bytes, 0);
+    meet(SHARES_OF_256, answer == NSG_ACCEPTED && bytes == SHARE_BYTES);
+    meet(SHARES_OF_257, answer == NSG_REFUSED_VALUE_BYTES && bytes == SHARE_BYTES + 1);
+}
+
 /* The calls that need no dealing, with numbers and lengths in and out of their ranges. */
 static void random_small_calls(void)
 {
-    uint32_t number = UNTOUCHED, length;
+    uint32_t number = UNTOUCHED;
     try_expand();
     called(nsg_key_length(below(8), below(2) == 0 ? below(POSITIONS + 2) : below(300), below(WIDTH + 2), below(VALUE_BYTES + 2), &number));
     record_number(number);
@@ -602,14 +733,8 @@ static void random_small_calls(void)
     record_number(number);
     called(nsg_sensor_position(below(NSG_SENSORS + 8), &number));
     record_number(number);
-    draw(room, 120);
-    fill(room + 120, 20, 0xBB);
-    called(nsg_join_shares(below(8), below(VALUE_BYTES + 2), room, below(120), room + 120, below(20)));
-    record_bytes(room + 120, 20);
-    number = 2 + below(PLAYERS - 1);
-    length = 1 + below(VALUE_BYTES);
-    called(nsg_join_shares(number, length, room, (uint64_t)number * length, room + 120, 20));
-    record_bytes(room + 120, 20);
+    try_join_shares();
+    try_join_shares();
 }
 
 static void run_random(uint32_t rounds, uint32_t limit)
@@ -618,7 +743,7 @@ static void run_random(uint32_t rounds, uint32_t limit)
         random_dealing(limit);
         random_small_calls();
     }
-    wrong += (bad_ends != ALL_ENDS) + (in_two_blocks != NOT_DIVIDING);
+    wrong += (bad_ends != ALL_ENDS) + (in_two_blocks != NOT_DIVIDING) + (cards_met != ALL_CARDS);
     decimal(calls);
     text(" random calls, those in at most ");
     decimal(limit);
@@ -626,7 +751,8 @@ static void run_random(uint32_t rounds, uint32_t limit)
     decimal(bad_columns);
     text(" bad columns");
     text(bad_ends == ALL_ENDS ? ", each number at each end of an array" : ", NOT at all ends of an array");
-    text(in_two_blocks == NOT_DIVIDING ? ", and cells in two blocks: " : ", NOT of all values cells in two blocks: ");
+    text(in_two_blocks == NOT_DIVIDING ? ", cells in two blocks" : ", NOT of all values cells in two blocks");
+    text(cards_met == ALL_CARDS ? ", and cards of all kinds: " : ", NOT cards of all kinds: ");
     hexadecimal(digest);
     text("\n");
 }

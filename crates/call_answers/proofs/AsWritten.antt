@@ -1,8 +1,19 @@
--- The refusals of Join shares and Choose width are document 03's text. Assumes nothing.
-use mathlib.Core.Path.{refl}
+-- The refusals of Join shares, to a width of 16, and of Choose width are document 03's text. Assumes nothing.
+use mathlib.Core.Path.{_≡_, refl}
+use mathlib.Core.Bool.{true}
+use native.Mathlib.Omega.{arith}
+use borrow.Author.Tests.{le-leb}
+use lib.Dec.{leb}
 use Rattle.call_answers.specs.Answers.{shares-refusal, width-refusal}
 use Rattle.call_answers.specs.AsWritten.{shares-written, width-written, Same-call-refusals}
 
 pub same-call-refusals : Same-call-refusals
 unfolding shares-written width-written shares-refusal width-refusal
-same-call-refusals = record { shares = λ p w long room. refl; width = λ p n. refl }
+same-call-refusals =
+    record {
+      shares = λ p w long room narrow.
+          let here : leb w 16 ≡ true = le-leb w 16 narrow in
+          let wide : leb w 256 ≡ true = le-leb w 256 (omega arith) in
+          rw (here, wide);
+      width = λ p n. refl;
+    }

@@ -3,4 +3,6 @@ pub mod Answering
 pub mod Putting
 pub mod Sizes
 pub mod Telling
+pub mod Drawing
+pub mod Sharing
 pub mod AsWritten

@@ -1,9 +1,10 @@
 -- What the operations answer and leave behind: document 03's Entry, word for word but for two names, `width-refusal`
--- and `expand-refusal`, and for what document 02 asks: Deal's place, (i), and Expand's start, (ii). Each is an equation
--- that fixes the number, the value and every lent byte, refused calls too. Join keys has its own file; Check key and
--- Held seed answer as the crates key_header and keys say. Assumes nothing: these are definitions.
+-- and `expand-refusal`, and for what document 02 asks: Deal's place, (i), Expand's start, (ii), and Draw card with the
+-- width of shares, (iii). Each is an equation that fixes the number, the value and every lent byte, refused calls too.
+-- Join keys has its own file; Check key and Held seed answer as the crates key_header and keys say. Assumes nothing:
+-- these are definitions.
 use mathlib.Core.Path.{_≡_}
-use mathlib.Core.Bool.{not, cond}
+use mathlib.Core.Bool.{Bool, _&&_, not, cond}
 use mathlib.Core.List.{List, [], _∷_}
 use Prim.Native.Nat.{ℕ, zero, suc, _+_, _*_}
 use lib.Dec.{ltb, leb, eqb}
@@ -12,10 +13,11 @@ use Rattle.xor.specs.Xor.{xors, zeros}
 use Rattle.writer.specs.Written.{in-front}
 use Rattle.chacha20.specs.From.{expand-from}
 use Rattle.seed_rows.specs.Rows.{rule}
-use Rattle.grid.specs.Grid.{board, board-refusal, players-fit, positions-fit, value-fits}
+use Rattle.grid.specs.Grid.{Board, board, board-refusal, players-fit, positions-fit}
 use Rattle.grid.specs.Width.{width, sensor-position}
 use Rattle.keys.specs.Keys.{or-else, lent, deal-refusal, deal-place, keys-from, key-long, key-refusal}
 use Rattle.keys.specs.Keys.{head-in, opened, table}
+use Rattle.cards.specs.Cards.{picked}
 use Rattle.call_answers.specs.declared.Answer.{Answer}
 use Rattle.call_answers.specs.declared.DealAnswer.{DealAnswer}
 
@@ -75,6 +77,23 @@ unfoldable pub Open-all-says : (key : List ℕ) → (r : ℕ) → (out out-now :
 Open-all-says ks r o z =
     Put-says (or-else (key-refusal ks) (cond (ltb (length o) (head-in ks .board .n * head-in ks .board .w)) 9 0)) (table (λ seed. key-rule ks seed) ks) r o z
 
+-- how wide shares that are joined may be, and cards: "Join shares takes widths to 256 from now on", "each L bytes, L
+-- from 1 to 256"; a board's values keep their own bound
+abbrev pub share-fits : (w : ℕ) → Bool
+share-fits w = leb 1 w && leb w 256
+
+-- DRAW CARD: the key's numbers, "21 when w of the key isn't 1, 22 when L is out of range or the deck isn't N × L bytes;
+-- then 9"
+unfoldable pub draw-refusal : Board → (l deck room : ℕ) → ℕ
+draw-refusal b l d o =
+    cond (not (eqb (b .w) 1)) 21 (cond (not (share-fits l && eqb d (b .n * l))) 22 (cond (ltb o l) 9 0))
+
+-- it writes "the XOR of the cards at which its share has its lowest bit set", by the key's full table
+unfoldable pub Draw-says : (key deck : List ℕ) → (l : ℕ) → (r : ℕ) → (out out-now : List ℕ) → Type 0
+Draw-says ks deck l r o z =
+    Put-says (or-else (key-refusal ks) (draw-refusal (head-in ks .board) l (length deck) (length o)))
+    (picked l (table (λ seed. key-rule ks seed) ks) deck) r o z
+
 -- JOIN SHARES: 1, 4, 7, 9; "it writes the w-byte XOR"
 unfoldable pub joined-shares : (left w : ℕ) → List ℕ → List ℕ
 joined-shares zero w bs = zeros w
@@ -83,7 +102,7 @@ joined-shares (suc k) w bs = xors (take w bs) (joined-shares k w (drop w bs))
 unfoldable pub shares-refusal : (p w long room : ℕ) → ℕ
 shares-refusal p w l o =
     cond (not (players-fit p)) 1
-    (cond (not (value-fits w)) 4 (cond (not (eqb l (p * w))) 7 (cond (ltb o w) 9 0)))
+    (cond (not (share-fits w)) 4 (cond (not (eqb l (p * w))) 7 (cond (ltb o w) 9 0)))
 
 unfoldable pub Join-says : (p w : ℕ) → (shares : List ℕ) → (r : ℕ) → (out out-now : List ℕ) → Type 0
 Join-says p w bs r o z = Put-says (shares-refusal p w (length bs) (length o)) (joined-shares p w bs) r o z

@@ -1,9 +1,10 @@
--- Document 03's own text: the refusals of Join shares and Choose width, which here share the ranges of a board, and
--- Expand, which has no start there. Assumes nothing: these are definitions and one statement.
+-- Document 03's own text: the refusals of Choose width, which here share the ranges of a board, and of Join shares,
+-- which ends at a width of 16 there, and Expand, which has no start there. Assumes nothing: these are definitions and
+-- one statement.
 use mathlib.Core.Path.{_≡_}
 use mathlib.Core.Bool.{_&&_, not, cond}
 use mathlib.Core.List.{List}
-use Prim.Native.Nat.{ℕ, _*_}
+use Prim.Native.Nat.{ℕ, _*_, _≤_}
 use lib.Dec.{ltb, leb, eqb}
 use lib.ListN.{length}
 use Rattle.chacha20.specs.Expand.{expand}
@@ -22,7 +23,7 @@ unfoldable pub Expand-written : (seed : List ℕ) → (r : ℕ) → (out out-now
 Expand-written bs r o z =
     Put-says (cond (not (eqb (length bs) 32)) 7 (cond (ltb 4096 (length o)) 16 0)) (expand (length o) bs) r o z
 
--- THE REFUSALS ARE THESE, for every number
+-- THE REFUSALS ARE THESE, for every number, those of Join shares for every width to 16
 pub record Same-call-refusals : Type 0 where
-  pub shares : (p w long room : ℕ) → shares-written p w long room ≡ shares-refusal p w long room
+  pub shares : (p w long room : ℕ) → w ≤ 16 → shares-written p w long room ≡ shares-refusal p w long room
   pub width : (p n : ℕ) → width-written p n ≡ width-refusal p n

@@ -1,12 +1,23 @@
 // What the operations answer: the refusal numbers by name, a number with a value, and what Deal answers. The contracts
 // of all operations but Join keys stand in specs/Answers.antt. Assumes nothing.
 ghost use mathlib.Core.Path.{_≡_};
-ghost use Rattle.call_answers.specs.Answers.{told};
+ghost use Rattle.call_answers.specs.Answers.{told, share-fits};
 
 pub mod refusals;
 
+use grid::board::within;
 pub use grid::fault::Fault;
 use refusals::ACCEPTED;
+
+// The most bytes of a share that is joined, and of a card.
+const MOST_SHARE_BYTES: u32 = 256;
+
+// Whether shares that are joined, or cards, can have so many bytes.
+pub fn share_bytes_fit(share_bytes: u32) -> bool
+    ensures { λ r. ⌜ r ≡ share-fits «share_bytes» ⌝ }
+{
+    within(1, share_bytes, MOST_SHARE_BYTES)
+}
 
 // A number and a value: the number of a refusal with 0, or 0 with the value asked.
 pub struct Answer {

@@ -34,3 +34,9 @@ pub const REFUSED_EXPANSION: u32 = 16;
 
 // The sensor is none of the spring board's.
 pub const REFUSED_SENSOR: u32 = 17;
+
+// A card is drawn with a key whose values are wider than a byte.
+pub const REFUSED_CARD_KEY: u32 = 21;
+
+// A card has a length that none has, or the deck is not one card for each position.
+pub const REFUSED_DECK: u32 = 22;

@@ -1,22 +1,12 @@
--- A list that is written part by part from the front, the end of a front, the sums of two states, and how many bytes words have. Assumes nothing.
+-- The end of a front, the sums of two states, and how many bytes words have. Assumes nothing.
 use mathlib.Core.Path.{_≡_, refl, sym, ap, _∙_}
-use mathlib.Core.List.{List, [], _∷_, _++_, append-assoc}
-use Prim.Native.Nat.{ℕ, zero, suc, _+_, _*_, _-_, _<_, _≤_}
+use mathlib.Core.List.{List, [], _∷_}
+use Prim.Native.Nat.{ℕ, zero, suc, _+_, _*_, _<_}
 use native.Mathlib.Omega.{arith}
 use native.Mathlib.Nat.{not-suc-le-zero, zero-add, suc-add}
 use lib.ListN.{length, getD, take, drop}
-use lib.Seq.{take-at, take-nil, drop-at, drop-drop}
-use borrow.Rule.Slice.PartMut.{putMid}
+use lib.Seq.{take-nil}
 use Rattle.chacha20.specs.Expand.{add, sums, low-bytes}
-
--- what stands before a part that is written, and what comes after it, is as it was
-pub part-written : (new old out part : List ℕ) (from to : ℕ) → length new ≡ from → from ≤ to → out ≡ new ++ drop from old →
-    putMid from (to - from) out part ≡ new ++ part ++ drop to old
-part-written new old out part from to long h so-far =
-    let whole : from + (to - from) ≡ to = omega arith in
-    rw so-far
-    (rw (take-at new (drop from old) from long, drop-at new (drop from old) from long, drop-drop (to - from) from old, whole)
-    (sym (append-assoc new part (drop to old))))
 
 -- the end of a front
 pub front-end : (s n : ℕ) (xs : List ℕ) → drop s (take (s + n) xs) ≡ take n (drop s xs)

@@ -11,7 +11,8 @@ use borrow.Rule.Slice.PartMut.{putMid}
 use Rattle.xor.specs.Xor.{zeros}
 use Rattle.chacha20.specs.Expand.{double-round, rounds, sums, low-bytes, seed-state, block, blocks}
 use Rattle.chacha20.specs.Rfc8439.{initial-state}
-use Rattle.chacha20.proofs.Parts.{part-written, length-low-bytes}
+use Rattle.xor.proofs.Walks.{part-written}
+use Rattle.chacha20.proofs.Parts.{length-low-bytes}
 use Rattle.chacha20.proofs.Rounds.{one-round-less, no-round-left}
 use Rattle.chacha20.proofs.Stream.{seed-state-is}
 use Rattle.chacha20_lanes.specs.Lanes.{every-fourth, lane-of, Side-by-side, lanes-bytes, block-of, lanes-blocks, blocks-at}

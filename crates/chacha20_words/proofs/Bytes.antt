@@ -9,7 +9,8 @@ use lib.ListN.{length, getD, set, take, drop, drop-of-length-le}
 use lib.Seq.{take-suc, take-all, length-take-le}
 use borrow.Rule.Slice.PartMut.{putMid}
 use Rattle.chacha20.specs.Expand.{at, word-at, low-bytes}
-use Rattle.chacha20.proofs.Parts.{part-written, length-low-bytes}
+use Rattle.xor.proofs.Walks.{part-written}
+use Rattle.chacha20.proofs.Parts.{length-low-bytes}
 
 -- four bytes that stand one after another are the word of their place
 pub word-of-four : (bs : List ℕ) (i : ℕ) → word-at (getD bs i 0 ∷ getD bs (i + 1) 0 ∷ getD bs (i + 2) 0 ∷ getD bs (i + 3) 0 ∷ []) 0 ≡ word-at bs i

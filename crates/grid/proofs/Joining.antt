@@ -118,7 +118,7 @@ words-join b special cs rs ws made a accepted marked rl rg wl wg makes h =
 
 -- SHARES JOIN
 
-joined-is : (k i : ℕ) (b : Board) (d : Dealing) (a : ℕ) → joined-from k i b d a ≡ over k i (b .w) (λ m. share b d m a)
+pub joined-is : (k i : ℕ) (b : Board) (d : Dealing) (a : ℕ) → joined-from k i b d a ≡ over k i (b .w) (λ m. share b d m a)
 unfolding joined-from over
 joined-is zero i b d a = refl
 joined-is (suc k) i b d a = ap (xors (share b d i a)) (joined-is k (suc i) b d a)

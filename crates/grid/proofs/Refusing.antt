@@ -4,8 +4,8 @@ use mathlib.Core.Path.{_≡_, sym, _∙_}
 use mathlib.Core.Bool.{Bool, true, false, _&&_, not}
 use Prim.Native.Nat.{ℕ, _≤_}
 use lib.Dec.{leb, ltb}
-use borrow.Author.Tests.{leb-true, not-true, not-false}
-use Rattle.xor.proofs.Laws.{and-left, and-right}
+use borrow.Author.Tests.{leb-true, le-leb, not-true, not-false}
+use Rattle.xor.proofs.Laws.{and-left, and-right, and-both}
 use Rattle.grid.specs.Grid.{Board, grid-rows, board-refusal}
 
 -- A number's range, as the definition tests it
@@ -19,6 +19,9 @@ Out low x high = (leb low x && leb x high) ≡ false
 pub in-range : (low x high : ℕ) → In low x high → (low ≤ x) × (x ≤ high)
 in-range low x high h =
     (leb-true low x (and-left (leb low x) (leb x high) h), leb-true x high (and-right (leb low x) (leb x high) h))
+
+pub within : (low x high : ℕ) → low ≤ x → x ≤ high → In low x high
+within low x high least most = and-both (leb low x) (leb x high) (le-leb low x least) (le-leb x high most)
 
 -- a test that the code makes by a call, and refuses where it fails
 pub passed : {r t : Bool} → r ≡ t → not r ≡ false → t ≡ true

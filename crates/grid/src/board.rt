@@ -45,7 +45,7 @@ pub struct Board {
 pub const SEED_BYTES: usize = 32;
 
 // Whether a number lies in its range.
-fn within(low: u32, number: u32, high: u32) -> bool
+pub fn within(low: u32, number: u32, high: u32) -> bool
     ensures { λ r. ⌜ r ≡ (leb low number && leb number high) ⌝ }
 {
     if low <= number { number <= high } else { false }
@@ -73,7 +73,7 @@ fn width_fits(width: u32) -> bool
 }
 
 // Whether a value can have so many bytes.
-pub fn value_bytes_fit(value_bytes: u32) -> bool
+fn value_bytes_fit(value_bytes: u32) -> bool
     ensures { λ r. ⌜ r ≡ value-fits «value_bytes» ⌝ }
 {
     within(1, value_bytes, MOST_VALUE_BYTES)

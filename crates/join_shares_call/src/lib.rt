@@ -4,8 +4,8 @@ use call_answers::refusals::REFUSED_LENT;
 use call_answers::refusals::REFUSED_PLAYERS;
 use call_answers::refusals::REFUSED_ROOM;
 use call_answers::refusals::REFUSED_VALUE_BYTES;
+use call_answers::share_bytes_fit;
 use grid::board::players_fit;
-use grid::board::value_bytes_fit;
 ghost use mathlib.Core.Path.{_≡_};
 ghost use Prim.Native.Nat.{_*_};
 ghost use lib.ListN.{length};
@@ -18,7 +18,7 @@ fn shares_refusal(players: u32, value_bytes: u32, shares: usize, room: usize) ->
     if !players_fit(players) {
         return REFUSED_PLAYERS;
     }
-    if !value_bytes_fit(value_bytes) {
+    if !share_bytes_fit(value_bytes) {
         return REFUSED_VALUE_BYTES;
     }
     let share = value_bytes as usize;
@@ -48,7 +48,7 @@ fn joined(players: usize, shares: &[u8], out: &mut [u8])
     }
 }
 
-// JOIN SHARES: 1, 4, 7, 9; writes the XOR of the shares of all players at one square.
+// JOIN SHARES: 1, 4, 7, 9; writes the XOR of the shares of all players at one square, or of their answers to a draw.
 pub fn join_shares(players: u32, value_bytes: u32, shares: &[u8], output: &mut [u8]) -> u32
     ensures { λ r. ⌜ Join-says players «value_bytes» (now (shares .entry)) r (now (output .entry)) (now (output .exit)) ⌝ }
 {

@@ -1,7 +1,7 @@
 // The operations that a board and a phone call. None requires anything: each answers 0 or the first refusal number that
 // fits, and its contract, a definition of the crate call_answers, fixes the number, the value or the place, and every
-// lent byte, of refused calls too. A refused call changes nothing that is lent. Deal, the openings and the joins are
-// crates of their own, passed on here, as are Check key and Held seed of the crate key_check. Assumes nothing.
+// lent byte, of refused calls too. A refused call changes nothing that is lent. Deal, the openings, the draw and the
+// joins are crates of their own, passed on here, as are Check key and Held seed of the crate key_check. Assumes nothing.
 ghost use Rattle.call_answers.specs.Answers.{Long-says, Expand-says, Width-says, Sensor-says};
 
 pub mod refusals;
@@ -19,6 +19,7 @@ use call_answers::refusals::REFUSED_POSITIONS;
 use call_answers::refusals::REFUSED_SENSOR;
 use call_answers::refused;
 pub use deal_call::deal;
+pub use draw_call::draw_card;
 use grid::board::Board;
 use grid::board::SEED_BYTES;
 use grid::board::players_fit;

@@ -1,8 +1,10 @@
 // The refusal numbers by name, as the crate call_answers has them. Assumes nothing.
 pub use call_answers::refusals::ACCEPTED;
+pub use call_answers::refusals::REFUSED_CARD_KEY;
 pub use call_answers::refusals::REFUSED_COLUMN_BIT;
 pub use call_answers::refusals::REFUSED_COLUMN_PARITY;
 pub use call_answers::refusals::REFUSED_COLUMN_TWICE;
+pub use call_answers::refusals::REFUSED_DECK;
 pub use call_answers::refusals::REFUSED_EXPANSION;
 pub use call_answers::refusals::REFUSED_GRID_ROWS;
 pub use call_answers::refusals::REFUSED_LENGTH;

@@ -35,7 +35,7 @@ module _ (ks : List ℕ) (h : Heading) (key : Says (key-refusal ks) ks h) (part 
   unfolding opened square-of
   square-is f a = rw (behind, ← (key .board-is))
 
-  table-is : (f : List ℕ → List ℕ) → table-of (board-of (h .header .board)) f part ≡ table f ks
+  pub table-is : (f : List ℕ → List ℕ) → table-of (board-of (h .header .board)) f part ≡ table f ks
   unfolding table parts-in table-of
   table-is f = rw (behind, ← (key .board-is))
 
@@ -59,7 +59,7 @@ place-number n a rest most (no h) = rw (lt-leb n a (omega arith)) (omega arith)
 
 -- a key that Check key refuses
 module _ (ks : List ℕ) (n : ℕ) (e : KeyCheck.Refused n ≡ checked-by (key-refusal ks) ks) (rest : ℕ) where
-  key-number : (or-else (key-refusal ks) rest ≡ n) × (n ≡ 0 → ⊥)
+  pub key-number : (or-else (key-refusal ks) rest ≡ n) × (n ≡ 0 → ⊥)
   key-number =
       let says = refused-says ks n _ e in
       (first-fits (key-refusal ks) rest (says .1) ∙ says .0, λ z. says .1 (says .0 ∙ z))

@@ -1,30 +1,30 @@
 -- The promises of specs/Calls.antt, each under its statement's name in small letters, from the contracts alone: what a call leaves with the
 -- answer 0 is a definition's bytes, and of those the promises of the crate keys hold under expansion. Assumes nothing.
 use mathlib.Core.Path.{_≡_, sym, ap, _∙_}
-use mathlib.Core.Bool.{not}
 use mathlib.Core.List.{List, [], _∷_}
 use Prim.Native.Nat.{ℕ, zero, suc, _+_, _*_, _≤_}
 use native.Mathlib.Omega.{arith}
-use lib.Dec.{eqb}
 use lib.ListN.{length, take, drop, length-drop}
 use lib.Seq.{length-take-le}
-use borrow.Author.Tests.{eqb-true, not-false}
 use Rattle.xor.specs.Xor.{bytes-good}
 use Rattle.xor.proofs.Laws.{length-xors, word-zeros}
-use Rattle.grid.specs.Grid.{board, players-fit, value-fits}
+use Rattle.grid.specs.Grid.{board}
 use Rattle.keys.specs.Keys.{key, key-refusal, head-in, opened, table, lent}
 use Rattle.keys.specs.Promise.{entry, Dealt-accepted, Accepted-is-drawn, held-in, Held-is-read}
 use Rattle.key_check.specs.Checked.{head-numbers, checked-as, key-checked}
 use Rattle.key_header.specs.declared.KeyCheck.{KeyCheck}
-use Rattle.keys.proofs.Accepted.{passed}
 use Rattle.keys.proofs.Promise.{dealt-accepted, dealt-board, dealt-player, accepted-is-drawn, held-is-read}
-use Rattle.call_answers.specs.Answers.{key-rule, Deal-says, Open-one-says, Open-all-says, joined-shares, shares-refusal, Join-says, Expand-says}
+use Rattle.call_answers.specs.Answers.{key-rule, Deal-says, Open-one-says, Open-all-says, Draw-says}
+use Rattle.call_answers.specs.Answers.{joined-shares, Join-says, Expand-says}
 use Rattle.seed_rows.specs.Rows.{rule}
 use Rattle.join_keys_call.specs.JoinKeys.{joined-table, Join-keys-says}
 use Rattle.promises.specs.Calls.{key-part, Deals-open, dealing-of, Deals-drawn, Accepted-opens, Opens-agree, Joins-agree}
 use Rattle.promises.specs.Calls.{Untouched, Refused-leaves, Answered-keeps}
-use Rattle.call_answers.proofs.Putting.{room-there, answer-is, put, untouched, take-front, part-front}
+use Rattle.call_answers.proofs.Sharing.{shares-fit}
+use Rattle.call_answers.proofs.Putting.{answer-is, put, untouched, take-front, part-front}
 use Rattle.promises.proofs.OpenedKey.{expansion, all-answered, one-answered, all-opened, one-opened, own-table-long, own-entry, own-entry-long, entry-fits}
+use Rattle.cards.specs.Cards.{picked}
+use Rattle.promises.proofs.DrawnCards.{card-drawn, own-picked}
 use Rattle.promises.proofs.JoinedKeys.{joined-says, part-fine, joined-word, joined-as-opened}
 use Rattle.promises.proofs.DealtCalls.{past, left, part-is, part-opens, parts-join, parts-joined, keys-past, square-joined}
 
@@ -105,12 +105,13 @@ joins-agree keys out out-now good says =
 -- REFUSALS
 
 pub refused-leaves : Refused-leaves
-unfolding Untouched Deal-says Open-one-says Open-all-says Join-says Join-keys-says Expand-says
+unfolding Untouched Deal-says Open-one-says Open-all-says Draw-says Join-says Join-keys-says Expand-says
 refused-leaves =
     record {
       deal = λ p n m w point value arrays seeds words r out out-now h. untouched _ _ r out out-now h;
       open-one = λ key a r out out-now h. untouched _ _ r out out-now h;
       open-all = λ key r out out-now h. untouched _ _ r out out-now h;
+      draw-card = λ key deck l r out out-now h. untouched _ _ r out out-now h;
       join-shares = λ p w shares r out out-now h. untouched _ _ r out out-now h;
       join-keys = λ keys r out out-now h. untouched _ _ r out out-now h;
       expand = λ seed s r out out-now h. untouched _ _ r out out-now h;
@@ -118,15 +119,7 @@ refused-leaves =
 
 -- BYTES PAST THOSE NAMED
 
--- shares that Join shares accepts, and their XOR
-shares-fine : (p w long room : ℕ) → shares-refusal p w long room ≡ 0 → (long ≡ p * w) × (w ≤ room)
-unfolding shares-refusal
-shares-fine p w long room h =
-    let players = passed (not (players-fit p)) 1 _ (λ t n. omega arith) h in
-    let width = passed (not (value-fits w)) 4 _ (λ t n. omega arith) (players .1) in
-    let whole = passed (not (eqb long (p * w))) 7 _ (λ t n. omega arith) (width .1) in
-    (eqb-true long (p * w) (not-false (eqb long (p * w)) (whole .0)), room-there room w (whole .1))
-
+-- the XOR of shares
 length-joined : (k w : ℕ) (bs : List ℕ) → k * w ≤ length bs → length (joined-shares k w bs) ≡ w
 unfolding joined-shares
 length-joined zero w bs h = word-zeros w .long
@@ -148,10 +141,14 @@ answered-keeps =
       open-all = λ key out out-now good h.
           let called = all-opened key out out-now h in
           past (head-in key .board .n * head-in key .board .w) (table (λ seed. key-rule key seed) key) out out-now (own-table-long key good (called .accepted)) (called .room) (called .now);
+      draw-card = λ key deck l out out-now good h.
+          let called = card-drawn key deck l out out-now h in
+          past l (picked l (table (λ seed. key-rule key seed) key) deck) out out-now
+          (own-picked key deck l good (called .accepted) (called .one) (called .deck-long) .long) (called .room) (called .now);
       join-shares = λ p w shares out out-now h.
           let written = joined-shares p w shares in
           let none = sym (answer-is _ written 0 out out-now h) in
-          let fine = shares-fine p w (length shares) (length out) none in
+          let fine = shares-fit p w (length shares) (length out) none in
           past w written out out-now (length-joined p w shares (omega (arith, fine .0))) (fine .1) (put _ written 0 out out-now h none);
       join-keys = λ keys out out-now good h.
           let b = head-in keys .board in

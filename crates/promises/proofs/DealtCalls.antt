@@ -8,23 +8,26 @@ use native.Mathlib.Omega.{arith}
 use lib.Dec.{ltb, eqb}
 use lib.ListN.{length, take, drop}
 use lib.Seq.{drop-drop}
-use borrow.Author.Tests.{eq-eqb, le-leb, le-ltb}
+use borrow.Author.Tests.{eq-eqb}
 use Rattle.xor.specs.Xor.{zeros}
-use Rattle.grid.specs.Grid.{Board, board, board-refusal, Dealing, share, joined-from}
+use Rattle.grid.specs.Grid.{Board, board, board-refusal, Dealing, share}
 use Rattle.grid.specs.Joining.{over}
-use Rattle.grid.proofs.Facts.{Board-in, board-accepted}
+use Rattle.grid.proofs.Facts.{board-accepted}
+use Rattle.grid.proofs.Refusing.{within}
 use Rattle.grid.proofs.Sums.{over-same}
+use Rattle.grid.proofs.Joining.{joined-is}
 use Rattle.keys.specs.Keys.{Lent, dealing, opened, key, keys-from, key-long, deal-refusal, table, or-else, lent}
 use Rattle.keys.specs.Promise.{lent-good, point-table, Dealt-accepted, Keys-open, Tables-join}
 use Rattle.keys.proofs.Dealing.{lent-in}
 use Rattle.keys.proofs.Promise.{dealt-accepted, dealt-board, dealt-word, keys-open, tables-join}
-use Rattle.call_answers.specs.Answers.{says, key-rule, Deal-says, Long-says, Open-one-says, Open-all-says, joined-shares, shares-refusal, Join-says}
+use Rattle.call_answers.specs.Answers.{says, key-rule, Deal-says, Long-says, Open-one-says, Open-all-says, joined-shares, Join-says}
 use Rattle.writer.specs.Written.{in-front}
 use Rattle.seed_rows.specs.Rows.{rule}
 use Rattle.join_keys_call.specs.JoinKeys.{Join-keys-says}
 use Rattle.promises.specs.Calls.{Dealt, key-part, Past-kept}
 use Rattle.call_answers.specs.declared.Answer.{Answer}
 use Rattle.keys.proofs.Accepted.{neither}
+use Rattle.call_answers.proofs.Sharing.{shares-0}
 use Rattle.call_answers.proofs.Putting.{room-there, answer-is, put, take-front, drop-front, length-front}
 use Rattle.promises.proofs.OpenedKey.{opened-table, expansion, all-answered, one-opened, own-entry-long}
 use Rattle.promises.proofs.DealtKeys.{lent-accepted, keys-length, key-cut, tables-over, keys-joined}
@@ -116,35 +119,22 @@ module _ (b : Board) (l : Lent) (long : Answer) (out keys-now : List ℕ) (d : L
 
 -- SHARES AT A SQUARE
 
--- shares one after another, each the dealing's
-shares-joined : (k i : ℕ) (b : Board) (d : Dealing) (a : ℕ) (bs : List ℕ) →
-    ((j : ℕ) → j < k → take (b .w) (drop (j * b .w) bs) ≡ share b d (i + j) a) → joined-shares k (b .w) bs ≡ joined-from k i b d a
-unfolding joined-shares joined-from
-shares-joined zero i b d a bs h = refl
-shares-joined (suc k) i b d a bs h =
-    let none : 0 * b .w ≡ 0 = omega arith in
+-- shares one after another, each given
+pub shares-over : (k i w : ℕ) (given : ℕ → List ℕ) (bs : List ℕ) → ((j : ℕ) → j < k → take w (drop (j * w) bs) ≡ given (i + j)) →
+    joined-shares k w bs ≡ over k i w given
+unfolding joined-shares over
+shares-over zero i w given bs h = refl
+shares-over (suc k) i w given bs h =
+    let none : 0 * w ≡ 0 = omega arith in
     let here : i + 0 ≡ i = omega arith in
-    let first : take (b .w) bs ≡ share b d i a = (rw (none, here) at (h 0 (omega arith))) in
+    let first : take w bs ≡ given i = (rw (none, here) at (h 0 (omega arith))) in
     rw (
       first,
-      shares-joined k (suc i) b d a (drop (b .w) bs)
+      shares-over k (suc i) w given (drop w bs)
           (λ j p.
-          let next : b .w + j * b .w ≡ suc j * b .w = omega arith in
+          let next : w + j * w ≡ suc j * w = omega arith in
           let later : suc i + j ≡ i + suc j = omega arith in
-          rw (drop-drop (j * b .w) (b .w) bs, next, later) (h (suc j) (omega arith))),
-    )
-
--- players and value width of an accepted board, where there is room
-shares-answered : (b : Board) (long room : ℕ) → Board-in b → long ≡ b .p * b .w → b .w ≤ room → shares-refusal (b .p) (b .w) long room ≡ 0
-unfolding shares-refusal
-shares-answered b long room f whole fits =
-    rw (
-      le-leb 2 (b .p) (f .players-least),
-      le-leb (b .p) 6 (f .players-most),
-      le-leb 1 (b .w) (f .value-least),
-      le-leb (b .w) 16 (f .value-most),
-      eq-eqb long (b .p * b .w) whole,
-      le-ltb room (b .w) fits,
+          rw (drop-drop (j * w) w bs, next, later) (h (suc j) (omega arith))),
     )
 
 module _ (b : Board) (l : Lent) (long : Answer) (out keys-now : List ℕ) (d : Left b l long out keys-now) where
@@ -175,10 +165,12 @@ module _ (b : Board) (l : Lent) (long : Answer) (out keys-now : List ℕ) (d : L
   square-joined a ones ones-now shares opened-at whole cut r o o-now room says =
       let fine = lent-in b l (d .accepted) .board in
       let inside = part-share 0 a (ones 0) (ones-now 0) (omega (arith, fine .players-least)) (opened-at 0 (omega (arith, fine .players-least))) .0 in
-      let none = shares-answered b (length shares) (length o) fine whole room in
+      let players = within 2 (b .p) 6 (fine .players-least) (fine .players-most) in
+      let bytes = within 1 (b .w) 256 (fine .value-least) (omega (arith, fine .value-most)) in
+      let none = sym (shares-0 (b .p) (b .w) (length shares) (length o) players bytes whole room) in
       let written = joined-shares (b .p) (b .w) shares in
-      let piece = shares-joined (b .p) 0 b drawn a shares (λ i p.
+      let piece = shares-over (b .p) 0 (b .w) (λ i. share b drawn i a) shares (λ i p.
       let here : i ≡ 0 + i = omega arith in
       cut i p ∙ part-share i a (ones i) (ones-now i) p (opened-at i p) .1 ∙ ap (λ (j : ℕ). share b drawn j a) here)
-      ∙ tables-join b (λ seed. rule b seed) l a (d .accepted) (expansion b) inside in
+      ∙ sym (joined-is (b .p) 0 b drawn a) ∙ tables-join b (λ seed. rule b seed) l a (d .accepted) (expansion b) inside in
       (answer-is _ written r o o-now says ∙ none, put _ written r o o-now says none ∙ ap (λ (xs : List ℕ). in-front xs o) piece)

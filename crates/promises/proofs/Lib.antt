@@ -1,6 +1,7 @@
 -- The promises' terms, with the laws that they are made of. Assumes nothing.
 pub mod Daggers
 pub mod OpenedKey
+pub mod DrawnCards
 pub mod DealtKeys
 pub mod DealtCalls
 pub mod JoinedKeys
@@ -12,6 +13,7 @@ pub mod OfTheCalls
 pub mod RestsOn
 pub mod BadArrays
 pub mod Expansion
+pub mod CardDraw
 pub mod ChooseWidth
 pub mod PrintedNumbers
 pub mod Document03

@@ -9,6 +9,7 @@ use Rattle.promises.proofs.OfTheCalls.{of-the-calls}
 use Rattle.promises.proofs.RestsOn.{rests-on}
 use Rattle.promises.proofs.BadArrays.{bad-arrays}
 use Rattle.promises.proofs.Expansion.{expansion}
+use Rattle.promises.proofs.CardDraw.{card-draw}
 use Rattle.promises.proofs.ChooseWidth.{choose-width}
 use Rattle.promises.proofs.PrintedNumbers.{printed-numbers}
 use Rattle.promises.proofs.Document03.{document-03}
@@ -23,6 +24,7 @@ promises =
       rests-on = rests-on;
       bad-arrays = bad-arrays;
       expansion = expansion;
+      card-draw = card-draw;
       choose-width = choose-width;
       printed-numbers = printed-numbers;
       document-03 = document-03;

@@ -15,7 +15,8 @@ use Rattle.keys.specs.Keys.{lent, dealing, key-refusal, head-in, key-long, Acce
 use Rattle.key_check.specs.Checked.{checked-as, key-checked}
 use Rattle.key_header.specs.declared.KeyCheck.{KeyCheck}
 use Rattle.keys.specs.Promise.{entry, point-table, held-in}
-use Rattle.call_answers.specs.Answers.{Deal-says, Long-says, Open-one-says, Open-all-says, Join-says, Expand-says}
+use Rattle.call_answers.specs.Answers.{Deal-says, Long-says, Open-one-says, Open-all-says, Draw-says, Join-says}
+use Rattle.call_answers.specs.Answers.{Expand-says}
 use Rattle.seed_rows.specs.Rows.{rule}
 use Rattle.writer.specs.Written.{in-front}
 use Rattle.join_keys_call.specs.JoinKeys.{Join-keys-says}
@@ -122,6 +123,8 @@ pub record Refused-leaves : Type 0 where
       Deal-says p n m w point value arrays seeds words r out out-now → Untouched r out out-now
   pub open-one : (key : List ℕ) (a r : ℕ) (out out-now : List ℕ) → Open-one-says key a r out out-now → Untouched r out out-now
   pub open-all : (key : List ℕ) (r : ℕ) (out out-now : List ℕ) → Open-all-says key r out out-now → Untouched r out out-now
+  pub draw-card : (key deck : List ℕ) (l r : ℕ) (out out-now : List ℕ) → Draw-says key deck l r out out-now →
+      Untouched r out out-now
   pub join-shares : (p w : ℕ) (shares : List ℕ) (r : ℕ) (out out-now : List ℕ) → Join-says p w shares r out out-now → Untouched r out out-now
   pub join-keys : (keys : List ℕ) (r : ℕ) (out out-now : List ℕ) → Join-keys-says keys r out out-now → Untouched r out out-now
   pub expand : (seed : List ℕ) (s r : ℕ) (out out-now : List ℕ) → Expand-says seed s r out out-now →
@@ -131,7 +134,7 @@ pub record Refused-leaves : Type 0 where
 unfoldable pub Past-kept : (named : ℕ) → (out out-now : List ℕ) → Type 0
 Past-kept k out out-now = (length out-now ≡ length out) × (drop k out-now ≡ drop k out)
 
--- "Output past the bytes named keeps its bytes": p × K, w, N × w, w and N × w bytes
+-- "Output past the bytes named keeps its bytes": p × K, w, N × w, L, w and N × w bytes
 pub record Answered-keeps : Type 0 where
   pub deal : (p n m w point : ℕ) (value : List ℕ) (long : Answer) (keys-now : List ℕ) (dealt : Dealt p n m w point value long keys-now) →
       Past-kept (p * long .value) (dealt .keys) keys-now
@@ -139,6 +142,8 @@ pub record Answered-keeps : Type 0 where
       Past-kept (head-in key .board .w) out out-now
   pub open-all : (key : List ℕ) (out out-now : List ℕ) → bytes-good key ≡ true → Open-all-says key 0 out out-now →
       Past-kept (head-in key .board .n * head-in key .board .w) out out-now
+  pub draw-card : (key deck : List ℕ) (l : ℕ) (out out-now : List ℕ) → bytes-good key ≡ true →
+      Draw-says key deck l 0 out out-now → Past-kept l out out-now
   pub join-shares : (p w : ℕ) (shares : List ℕ) (out out-now : List ℕ) → Join-says p w shares 0 out out-now → Past-kept w out out-now
   pub join-keys : (keys : List ℕ) (out out-now : List ℕ) → bytes-good keys ≡ true → Join-keys-says keys 0 out out-now →
       Past-kept (head-in keys .board .n * head-in keys .board .w) out out-now

@@ -7,6 +7,7 @@ pub mod OfTheCalls
 pub mod RestsOn
 pub mod BadArrays
 pub mod Expansion
+pub mod CardDraw
 pub mod ChooseWidth
 pub mod PrintedNumbers
 pub mod Document03

@@ -1,51 +1,14 @@
--- An output that is gone over from the front, part by part: what is done is as it is to become, the rest as it was. What it is to become is a
--- stretch of bytes, or the XOR of one with those that stood there. Assumes nothing.
-use mathlib.Core.Path.{_≡_, refl, sym, _∙_}
-use mathlib.Core.List.{List, _++_, append-nil}
+-- Stretches of something, in an output that is gone over part by part: each part is written, or has its XOR with the stretch that belongs
+-- there. Assumes nothing.
+use mathlib.Core.Path.{_≡_, sym, _∙_}
+use mathlib.Core.List.{List}
 use Prim.Native.Nat.{ℕ, _+_, _-_, _≤_}
 use native.Mathlib.Omega.{arith}
-use lib.ListN.{length, take, drop, drop-of-length-le}
-use lib.Seq.{take-all, take-add, drop-at, length-take-le}
-use borrow.Rule.Slice.PartMut.{midOf, putMid, mid-len, same-len-mid}
+use lib.ListN.{length, take, drop}
+use borrow.Rule.Slice.PartMut.{midOf, putMid, mid-len}
 use Rattle.xor.specs.Xor.{xors}
-use Rattle.xor.proofs.Laws.{take-xors, drop-xors, length-xors}
-use Rattle.chacha20.proofs.Parts.{part-written}
-
--- the bytes before `done` are those of `new`
-pub record Gone (new old out : List ℕ) (done : ℕ) : Type 0 where
-  pub within : done ≤ length old
-  pub same : length out ≡ length old
-  pub so-far : out ≡ take done new ++ drop done old
-
-pub none-gone : (new old : List ℕ) → Gone new old old 0
-none-gone new old = record { within = omega arith; same = refl; so-far = refl }
-
-module _ (new old out : List ℕ) (done : ℕ) (long : length new ≡ length old) (w : Gone new old out done) where
-  done-long : length (take done new) ≡ done
-  done-long = let within = w .within in length-take-le done new (omega (arith, long))
-
-  -- the next bytes are still as they were
-  next-old : drop done out ≡ drop done old
-  next-old = rw (w .so-far) (drop-at (take done new) (drop done old) done done-long)
-
-  -- a turn of the loop: the next part becomes as it is to be
-  next-gone : (end : ℕ) (part : List ℕ) → done ≤ end → end ≤ length out → length part ≡ length (midOf done (end - done) out) →
-      part ≡ take (end - done) (drop done new) → Gone new old (putMid done (end - done) out part) end
-  next-gone end part on room part-long part-is =
-      let m = end - done in
-      let same = w .same in
-      let all : done + m ≡ end = omega arith in
-      record {
-        within = omega arith;
-        same = same-len-mid done m out part part-long ∙ same;
-        so-far = part-written (take done new) old out part done end done-long (omega arith) (w .so-far) ∙ rw part-is (rw (sym (take-add done m new), all));
-      }
-
-  -- where the output ends, all of it is
-  pub all-gone : length out ≤ done → out ≡ new
-  all-gone h =
-      let same = w .same in
-      w .so-far ∙ rw (take-all done new (omega (arith, long)), drop-of-length-le old {i = done} (omega arith)) (append-nil new)
+use Rattle.xor.proofs.Walks as walks
+use Rattle.xor.proofs.Walks.{Gone, next-gone}
 
 -- STRETCHES of something: n bytes from byte s on, and a part of them is the stretch that begins there
 pub record Stretched (F : (s n : ℕ) → List ℕ) : Type 0 where
@@ -61,7 +24,7 @@ module _ {F : (s n : ℕ) → List ℕ} (f : Stretched F) (old out : List ℕ) (
   turn end had on room e = rw e (sym (f .part start (length old) done (end - done) (omega arith)))
 
   pub xored-long : length (xors old all) ≡ length old
-  xored-long = length-xors old all (sym (f .long start (length old)))
+  xored-long = walks.xored-long all old (f .long start (length old))
 
   -- a turn of a loop that writes them
   pub next-written : Gone all old out done → (end : ℕ) (part : List ℕ) → done ≤ end → end ≤ length out → length part ≡ length (midOf done (end - done) out) →
@@ -78,6 +41,4 @@ module _ {F : (s n : ℕ) → List ℕ} (f : Stretched F) (old out : List ℕ) (
   next-xored w end part on room part-long is =
       let same = w .same in
       let bytes = turn end _ on (omega arith) (mid-len done end out room) in
-      next-gone (xors old all) old out done xored-long w end part on room part-long
-      (is ∙ rw (bytes, next-old (xors old all) old out done xored-long w) (sym (rw (drop-xors done old all)
-      (take-xors (end - done) (drop done old) (drop done all)))))
+      walks.next-xored all old out done (f .long start (length old)) w end part on room part-long (is ∙ rw bytes)

@@ -8,6 +8,7 @@ use crate::operations::CHECK_KEY;
 use crate::operations::CHOOSE_WIDTH;
 use crate::operations::DEAL;
 use crate::operations::DEALING_PROGRAM;
+use crate::operations::DRAW_CARD;
 use crate::operations::EXPAND;
 use crate::operations::HELD_SEED;
 use crate::operations::JOIN_KEYS;
@@ -100,6 +101,17 @@ fn open_all(inputs: &[u8], lent: &mut [u8]) -> Answered {
     alone(nosingginger::open_all(inputs, lent))
 }
 
+fn draw_card(head: &[u8], inputs: &[u8], lent: &mut [u8]) -> Answered {
+    let key = length_at(head, INPUT_1);
+    let deck = length_at(head, INPUT_2);
+    alone(nosingginger::draw_card(
+        part(inputs, 0, key),
+        part(inputs, key, deck),
+        number_at(head, NUMBER_1),
+        lent,
+    ))
+}
+
 fn join_shares(head: &[u8], inputs: &[u8], lent: &mut [u8]) -> Answered {
     alone(nosingginger::join_shares(
         number_at(head, NUMBER_1),
@@ -136,6 +148,7 @@ fn called(operation: u8, head: &[u8], inputs: &[u8], lent: &mut [u8]) -> Answere
         CHECK_KEY => check_key(inputs),
         OPEN_ONE => open_one(head, inputs, lent),
         OPEN_ALL => open_all(inputs, lent),
+        DRAW_CARD => draw_card(head, inputs, lent),
         JOIN_SHARES => join_shares(head, inputs, lent),
         JOIN_KEYS => join_keys(inputs, lent),
         EXPAND => expand(head, inputs, lent),

@@ -14,6 +14,7 @@ use operations::CHECK_KEY;
 use operations::CHOOSE_WIDTH;
 use operations::DEAL;
 use operations::DEALING_PROGRAM;
+use operations::DRAW_CARD;
 use operations::EXPAND;
 use operations::HELD_SEED;
 use operations::JOIN_KEYS;
@@ -40,10 +41,10 @@ fn output_buffer() -> [u8; 70000]
 }
 
 // As many zeros as the file takes, and some more.
-fn file_buffer() -> [u8; 2000000]
-    ensures { λ r. ⌜ 2000000 ≡ length r ⌝ }
+fn file_buffer() -> [u8; 2400000]
+    ensures { λ r. ⌜ 2400000 ≡ length r ⌝ }
 {
-    [0; 2000000]
+    [0; 2400000]
 }
 
 // One operation's line, behind those of its cases that differ.
@@ -77,10 +78,11 @@ fn key_lines(file: &[u8]) {
     line(b"check key", CHECK_KEY, file);
 }
 
-// Opening and joining.
+// Opening, drawing and joining.
 fn share_lines(file: &[u8]) {
     line(b"open one", OPEN_ONE, file);
     line(b"open all", OPEN_ALL, file);
+    line(b"draw card", DRAW_CARD, file);
     line(b"join shares", JOIN_SHARES, file);
     line(b"join keys", JOIN_KEYS, file);
 }

@@ -24,3 +24,5 @@ pub const SENSOR_POSITION: u8 = 11;
 pub const DEALING_PROGRAM: u8 = 12;
 
 pub const JOINING_PROGRAM: u8 = 13;
+
+pub const DRAW_CARD: u8 = 14;

@@ -1,6 +1,6 @@
 //! Accepted dealings and keys on every board, from dealing to joining.
 
-use super::{bytes_call, deal_call, deal_numbers, numbers_call, program_input, Maker};
+use super::{bytes_call, card_call, deal_call, deal_numbers, numbers_call, program_input, Maker};
 use crate::board::Board;
 use crate::data::{
     CHECK_KEY, CHOOSE_WIDTH, DEALING_PROGRAM, HELD_SEED, JOINING_PROGRAM, JOIN_KEYS, JOIN_SHARES,
@@ -14,6 +14,9 @@ use crate::open::open_one;
 const SHORT_KEY: usize = 700;
 /// Joined tables, all zeros but for one entry, are no longer than this.
 const SHORT_TABLE: usize = 20_000;
+/// Cards of so many bytes are drawn where there are no more than so many; `cards` has larger decks.
+const CARD_BYTES: usize = 4;
+const SHORT_DECK: usize = 256;
 /// Programs run where they read and write no more than this.
 const SHORT_PROGRAM: usize = 12_000;
 
@@ -42,7 +45,7 @@ pub fn add(maker: &mut Maker, place: usize, board: Board) {
     programs(maker, &drawn, &keys);
 }
 
-/// One player's key: checked, opened, its seeds asked for.
+/// One player's key: checked, opened, its seeds asked for, a card drawn with it.
 fn one_key(maker: &mut Maker, drawn: &Drawn, key: &[u8], spare: usize, short: bool) {
     let board = drawn.board;
     maker.add(0, bytes_call(CHECK_KEY, &[], key, 0));
@@ -58,6 +61,14 @@ fn one_key(maker: &mut Maker, drawn: &Drawn, key: &[u8], spare: usize, short: bo
         maker.add(0, bytes_call(OPEN_ONE, &[position], key, lent));
     }
     held_seeds(maker, board, key, short);
+    if board.value_width > 1 {
+        // 21, with 22 and 9 as well, which come after.
+        maker.add(21, card_call(key, &[], 257, 0));
+    } else if board.positions <= SHORT_DECK {
+        let deck = maker.generator.bytes(board.positions * CARD_BYTES);
+        let lent = CARD_BYTES + spare;
+        maker.add(0, card_call(key, &deck, CARD_BYTES as u32, lent));
+    }
 }
 
 /// A marked column and one that is not, in a drawn grid row; then places that do not exist.

@@ -1,6 +1,6 @@
 //! Dealings and keys with one fault, and with several at once, on short boards.
 
-use super::{bytes_call, deal_call, deal_numbers, in_groups, program_input, Maker};
+use super::{bytes_call, card_call, deal_call, deal_numbers, in_groups, program_input, Maker};
 use crate::board::Board;
 use crate::data::{
     CHECK_KEY, DEALING_PROGRAM, HELD_SEED, JOINING_PROGRAM, JOIN_KEYS, OPEN_ALL, OPEN_ONE,
@@ -9,7 +9,7 @@ use crate::draw::Drawn;
 use crate::key::{header_of, key_bytes};
 
 /// A refusal number and the bytes that meet it.
-type Fault = (u32, Vec<u8>);
+pub type Fault = (u32, Vec<u8>);
 
 /// Boards whose p keys together are at most this long have every fault joined.
 const SHORT_KEYS: usize = 700;
@@ -17,6 +17,8 @@ const SHORT_KEYS: usize = 700;
 const SHORTEST_KEY: usize = 40;
 /// Random one-byte changes of a key for each board.
 const RANDOM_CHANGES: usize = 12;
+/// L of the decks beside damaged keys.
+const CARD_BYTES: usize = 2;
 
 pub fn add(maker: &mut Maker, board: Board) {
     let drawn = Drawn::new(board, &mut maker.generator);
@@ -205,7 +207,7 @@ fn with_marks(board: Board, key: &[u8], grid_row: usize, bits: u8) -> Vec<u8> {
 }
 
 /// Keys that Check key refuses, and some that it does not.
-fn key_faults(board: Board, key: &[u8], player: u32) -> Vec<Fault> {
+pub fn key_faults(board: Board, key: &[u8], player: u32) -> Vec<Fault> {
     let header = header_of(&board, player as usize);
     let numbers = [
         header.players,
@@ -261,28 +263,33 @@ fn key_faults(board: Board, key: &[u8], player: u32) -> Vec<Fault> {
     faults
 }
 
-/// One key at a time: Check key, Open one, Open all and Held seed on damaged keys.
+/// One key at a time: Check key, Open one, Open all, Draw card and Held seed on damaged keys.
 fn one_key(maker: &mut Maker, board: Board, keys: &[Vec<u8>]) {
     let player = maker.generator.below(board.players);
     let key = &keys[player];
     let (table, width) = (board.table_bytes(), board.value_width);
     let positions = board.positions as u32;
+    let deck = maker.generator.bytes(board.positions * CARD_BYTES);
+    let card = CARD_BYTES as u32;
     let faults = key_faults(board, key, player as u32);
     for (place, (refusal, damaged)) in faults.iter().enumerate() {
         let refusal = *refusal;
         maker.add(refusal, bytes_call(CHECK_KEY, &[], damaged, 0));
         if refusal == 0 {
             maker.add(0, bytes_call(OPEN_ALL, &[], damaged, table));
+            maker.add(0, card_call(damaged, &deck, card, CARD_BYTES));
             continue;
         }
-        // The others by turns, each with all its later faults as well.
+        // Draw card with 22 and 9 as well, which come after.
+        maker.add(refusal, card_call(damaged, &[], 257, 0));
+        // The others by turns, each with all its later faults as well, and Draw card with none.
         match place % 6 {
             0 => maker.add(refusal, bytes_call(OPEN_ONE, &[positions], damaged, 0)),
+            1 => maker.add(refusal, card_call(damaged, &deck, card, CARD_BYTES)),
             2 => maker.add(refusal, bytes_call(OPEN_ALL, &[], damaged, 0)),
             3 => maker.add(refusal, bytes_call(OPEN_ONE, &[0], damaged, width)),
             4 => maker.add(0, bytes_call(HELD_SEED, &[0, 0], damaged, 0)),
-            5 => maker.add(refusal, bytes_call(OPEN_ALL, &[], damaged, table)),
-            _ => continue,
+            _ => maker.add(refusal, bytes_call(OPEN_ALL, &[], damaged, table)),
         };
     }
     maker.add(14, bytes_call(OPEN_ONE, &[positions], key, width));

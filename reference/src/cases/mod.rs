@@ -4,6 +4,7 @@
 
 mod accepted;
 mod arrays;
+mod cards;
 mod cells;
 mod damaged;
 mod limits;
@@ -12,7 +13,7 @@ pub mod programs;
 mod starts;
 
 use crate::board::Board;
-use crate::data::{start_numbers, Answer, Call, Case, EXPAND};
+use crate::data::{start_numbers, Answer, Call, Case, DRAW_CARD, EXPAND};
 use crate::deal::Place;
 use crate::draw::{Drawn, Generator};
 use crate::key::header_of;
@@ -74,6 +75,7 @@ pub fn all() -> Vec<Case> {
     limits::add(&mut maker);
     starts::add(&mut maker);
     cells::add(&mut maker);
+    cards::add(&mut maker);
     maker.cases
 }
 
@@ -138,6 +140,13 @@ fn bytes_call(operation: u8, numbers: &[u32], input: &[u8], lent: usize) -> Call
 /// A call of Expand.
 fn expand_call(seed: &[u8], start: u64, lent: usize) -> Call {
     bytes_call(EXPAND, &start_numbers(start), seed, lent)
+}
+
+/// A call of Draw card.
+fn card_call(key: &[u8], deck: &[u8], card_bytes: u32, lent: usize) -> Call {
+    let mut call = bytes_call(DRAW_CARD, &[card_bytes], key, lent);
+    call.inputs[1] = deck.to_vec();
+    call
 }
 
 /// A call of Deal.

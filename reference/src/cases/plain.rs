@@ -135,14 +135,19 @@ fn shares(maker: &mut Maker) {
             add(7, &shares, 0);
             add(9, &shares[..exact], output - 1);
         }
+        wide_shares(maker, players);
     }
+    // Some widths are in the range modulo 2^8 or 2^16, and some lengths right modulo 2^32.
     let cases = [
         (1, 1, 1),
         (1, 7, 0),
-        (1, 0, 17),
+        (1, 0, 257),
         (1, u32::MAX, u32::MAX),
         (4, 2, 0),
-        (4, 2, 17),
+        (4, 2, 257),
+        (4, 3, 512),
+        (4, 2, 65_537),
+        (4, 2, (1 << 31) + 1),
         (4, 6, u32::MAX),
     ];
     for (refusal, players, width) in cases {
@@ -152,4 +157,26 @@ fn shares(maker: &mut Maker) {
             bytes_call(JOIN_SHARES, &[players, width], &shares, 0),
         );
     }
+}
+
+/// Shares wider than a value, as those of a card are: 7 and 9 at the widest, and 4 above it with all
+/// else right.
+fn wide_shares(maker: &mut Maker, players: u32) {
+    let shares = maker.generator.bytes(players as usize * 257);
+    let mut add = |refusal, width: u32, bytes: &[u8], lent| {
+        let call = bytes_call(JOIN_SHARES, &[players, width], bytes, lent);
+        maker.add(refusal, call);
+    };
+    for width in [17, 255, 256] {
+        let (exact, output) = ((players * width) as usize, width as usize);
+        add(0, width, &shares[..exact], output);
+        add(0, width, &shares[..exact], output + 3);
+        add(9, width, &shares[..exact], output - 1);
+    }
+    let exact = players as usize * 256;
+    // A byte less or a byte more, by turns of p.
+    let wrong = exact - 1 + players as usize % 2 * 2;
+    add(7, 256, &shares[..wrong], 256);
+    add(7, 256, &shares[..wrong], 0);
+    add(4, 257, &shares, 257);
 }

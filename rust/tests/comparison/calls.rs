@@ -5,7 +5,7 @@ use crate::tally::{Operation, Tally};
 use nosingginger::{raw, Refusal};
 use reference::board::Board;
 use reference::deal::faulty_columns;
-use reference::draw::Generator;
+use reference::draw::{Drawn, Generator};
 
 /// The arguments of Deal, but for its output.
 #[derive(Clone)]
@@ -285,17 +285,51 @@ impl Comparison {
         self.output(&asked, length, exact, |table| reference::open::open_all(key, table), |table| nosingginger::open_all(key, table));
     }
 
+    pub fn draw_card(&mut self, key: &[u8], deck: &[u8], card_bytes: u32, length: usize) {
+        let inputs = [self.lend(key), self.lend(deck)];
+        let [key, deck] = [0, 1].map(|input| inputs[input].bytes());
+        let asked = Asked { operation: Operation::DrawCard, numbers: &[card_bytes], inputs: &inputs };
+        let number = self.output(
+            &asked,
+            length,
+            card_bytes as usize,
+            |card| reference::cards::draw_card(key, deck, card_bytes, card),
+            |card| nosingginger::draw_card(key, deck, card_bytes, card),
+        );
+        if let Ok(header) = reference::key::check_key(key) {
+            self.tally.card(header.positions as usize, deck.len(), card_bytes, number);
+        }
+    }
+
+    /// A card that all players draw, each with a key of one dealing, and join: the right one, or zeros.
+    pub fn whole_draw(&mut self, drawn: &Drawn, keys: &[Vec<u8>], card_bytes: u32) {
+        let (players, length) = (keys.len() as u32, card_bytes as usize);
+        let deck = self.generator.bytes(drawn.board.positions * length);
+        let (mut answers, mut card) = (vec![0; keys.len() * length], vec![0; length]);
+        for (key, answer) in keys.iter().zip(answers.chunks_mut(length)) {
+            self.draw_card(key, &deck, card_bytes, length);
+            nosingginger::draw_card(key, &deck, card_bytes, answer).expect("the same call again");
+        }
+        self.join_shares(players, card_bytes, &answers, length);
+        nosingginger::join_shares(players, card_bytes, &answers, &mut card).expect("the same call again");
+        let value = drawn.value[0];
+        let right = if value % 2 == 1 { &deck[drawn.point as usize * length..][..length] } else { &vec![0; length] };
+        assert_eq!(card, right, "{players} players, seed {}: the card at {} of value {value}", self.seed, drawn.point);
+        self.tally.whole_draw(keys.len(), value);
+    }
+
     pub fn join_shares(&mut self, players: u32, value_bytes: u32, shares: &[u8], length: usize) {
         let inputs = [self.lend(shares)];
         let shares = inputs[0].bytes();
         let asked = Asked { operation: Operation::JoinShares, numbers: &[players, value_bytes], inputs: &inputs };
-        self.output(
+        let number = self.output(
             &asked,
             length,
             value_bytes as usize,
             |value| reference::join::join_shares(players, value_bytes, shares, value),
             |value| nosingginger::join_shares(players, value_bytes, shares, value),
         );
+        self.tally.shares(value_bytes, number);
     }
 
     pub fn join_keys(&mut self, keys: &[u8], length: usize) {

@@ -1,5 +1,6 @@
 //! Draws: numbers at and beyond their limits, lengths of outputs, boards.
 
+use nosingginger::MOST_SHARE_BYTES;
 use reference::board::{Board, FEWEST_PLAYERS, MOST_GRID_ROWS, MOST_GRID_WIDTH, MOST_PLAYERS, MOST_POSITIONS, MOST_VALUE_WIDTH};
 use reference::chacha::{BLOCK_BYTES, MOST_ROW_BYTES};
 use reference::draw::Generator;
@@ -17,6 +18,12 @@ pub trait Draw {
     /// Where so many bytes of a row start: mostly so that the longest row holds them, often at or beside the border of
     /// two blocks or so that they end with the longest row; else further on, up to where the end is past 64 bits.
     fn start(&mut self, length: usize) -> u64;
+    /// The bytes of a card, so that a board's deck has at most `most_deck` bytes if any has: any number of them, the least
+    /// or the most.
+    fn card_bytes(&mut self, board: &Board, most_deck: usize) -> u32;
+    /// Bytes of a card and of a deck: mostly right ones; else of a card at and beyond its limits, or so that all cards
+    /// together have 2^32 bytes more than the deck; else of a deck that is too short or too long.
+    fn card_and_deck(&mut self, board: &Board, most_deck: usize) -> (u32, usize);
     /// A board whose openings cost at most `most_cost`.
     fn board(&mut self, most_cost: usize) -> Board;
 }
@@ -70,6 +77,33 @@ impl Draw for Generator {
             _ => u64::from(self.number()) << self.below(33),
         };
         near.wrapping_add_signed(self.pick(&[0, 0, 0, -1, 1]))
+    }
+
+    fn card_bytes(&mut self, board: &Board, most_deck: usize) -> u32 {
+        let most = (most_deck / board.positions).clamp(1, MOST_SHARE_BYTES as usize) as u32;
+        let drawn = self.within(1, most);
+        self.pick(&[drawn, drawn, drawn, drawn, 1, most])
+    }
+
+    fn card_and_deck(&mut self, board: &Board, most_deck: usize) -> (u32, usize) {
+        let (positions, card_bytes) = (board.positions, self.card_bytes(board, most_deck));
+        let (card, deck) = (card_bytes as usize, positions * card_bytes as usize);
+        match self.below(20) {
+            0 => (card_bytes, deck - 1),
+            1 => (card_bytes, deck + 1),
+            2 => (card_bytes, deck - card),
+            3 => (card_bytes, deck + card),
+            4 => (card_bytes, self.below(2 * deck)),
+            5 => (self.pick(&[0, MOST_SHARE_BYTES + 1]), self.pick(&[0, deck])),
+            6 => (MOST_SHARE_BYTES + 1, (positions * (MOST_SHARE_BYTES as usize + 1)).min(most_deck)),
+            7 => (self.near(1, MOST_SHARE_BYTES), deck),
+            // One position cannot have so many bytes.
+            8 | 9 if positions > 1 => {
+                let wraps = (1u64 << 32).div_ceil(positions as u64) as u32 + self.pick(&[0, card_bytes]);
+                (wraps, (wraps as usize * positions) & u32::MAX as usize)
+            }
+            _ => (card_bytes, deck),
+        }
     }
 
     fn board(&mut self, most_cost: usize) -> Board {

@@ -4,6 +4,7 @@ use crate::calls::Comparison;
 use crate::draw::{as_long, cell_in_two_blocks, cost, Draw};
 use crate::faults::{faulty_hand, faulty_key, hand, hand_with_fault, Keys};
 use crate::tally::Operation;
+use nosingginger::MOST_SHARE_BYTES;
 use reference::board::{Board, FEWEST_PLAYERS, MOST_GRID_WIDTH, MOST_PLAYERS, MOST_POSITIONS, MOST_VALUE_WIDTH};
 use reference::chacha::MOST_ROW_BYTES;
 use reference::draw::Drawn;
@@ -54,14 +55,18 @@ const SMALL: usize = 1_500;
 const MEDIUM: usize = 20_000;
 const LARGE: usize = 200_000;
 
+/// The most bytes of a drawn deck, but for one-byte cards. The largest is left to the boards at the limits.
+const MOST_DRAWN_DECK: usize = 1 << 14;
+
 /// How often an operation is drawn.
-const WEIGHTS: [(Operation, usize); 11] = [
+const WEIGHTS: [(Operation, usize); 12] = [
     (Operation::KeyLength, 6),
     (Operation::Deal, 15),
     (Operation::CheckKey, 16),
     (Operation::OpenOne, 16),
     (Operation::OpenAll, 13),
-    (Operation::JoinShares, 6),
+    (Operation::DrawCard, 16),
+    (Operation::JoinShares, 8),
     (Operation::JoinKeys, 18),
     (Operation::HeldSeed, 8),
     (Operation::Expand, 5),
@@ -84,6 +89,9 @@ impl Comparison {
         let board = Board::new(players, positions, grid_width, value_width).expect("a board in range");
         let round = self.new_round(board, &[]);
         self.right_calls(&round);
+        if value_width == 1 {
+            self.whole_draw(&round.drawn, &round.keys, MOST_SHARE_BYTES);
+        }
         for _ in 0..if cost(&board) <= MEDIUM { 40 } else { 8 } {
             self.drawn_call(&round);
         }
@@ -148,10 +156,27 @@ impl Comparison {
         self.open_one(key, 0, board.value_width - 1);
         self.open_all(key, board.table_bytes());
         self.open_all(key, board.table_bytes() - 1);
+        self.right_draws(round, key);
         let shares = round.shares(round.drawn.point);
         self.join_shares(players, value_width, &shares, board.value_width);
         self.join_keys(&round.keys.concat(), board.table_bytes());
         self.join_keys(&round.keys.concat(), board.table_bytes() - 1);
+    }
+
+    /// A card with one key, from a right deck, from one a byte short and one a byte long, and with an output one short; and
+    /// by all players. Where values are wider, the first alone.
+    fn right_draws(&mut self, round: &Round, key: &[u8]) {
+        let board = round.drawn.board;
+        let card_bytes = self.generator.card_bytes(&board, MOST_DRAWN_DECK);
+        let deck = self.generator.bytes(board.positions * card_bytes as usize + 1);
+        let (exact, length) = (deck.len() - 1, card_bytes as usize);
+        self.draw_card(key, &deck[..exact], card_bytes, length);
+        if board.value_width == 1 {
+            self.draw_card(key, &deck[..exact - 1], card_bytes, length);
+            self.draw_card(key, &deck, card_bytes, length);
+            self.draw_card(key, &deck[..exact], card_bytes, length - 1);
+            self.whole_draw(&round.drawn, &round.keys, card_bytes);
+        }
     }
 
     fn drawn_call(&mut self, round: &Round) {
@@ -177,6 +202,7 @@ impl Comparison {
                 let length = self.generator.output_length(round.drawn.board.table_bytes());
                 self.open_all(&key, length);
             }
+            Operation::DrawCard => self.drawn_draw_card(round),
             Operation::JoinShares => self.drawn_join_shares(),
             Operation::JoinKeys => {
                 let Round { drawn, keys, as_long, earlier } = round;
@@ -221,6 +247,16 @@ impl Comparison {
         self.open_one(&key, across.unwrap_or(drawn), length);
     }
 
+    fn drawn_draw_card(&mut self, round: &Round) {
+        // Half of the keys have no fault: most of the rest are refused before the deck is looked at.
+        let player = self.generator.below(round.keys.len());
+        let key = if self.generator.one_in(2) { self.drawn_key(round) } else { round.keys[player].clone() };
+        let (card_bytes, deck_length) = self.generator.card_and_deck(&round.drawn.board, MOST_DRAWN_DECK);
+        let deck = self.generator.bytes(deck_length);
+        let length = self.generator.output_length(card_bytes.min(1_000) as usize);
+        self.draw_card(&key, &deck, card_bytes, length);
+    }
+
     fn drawn_held_seed(&mut self, round: &Round) {
         let board = round.drawn.board;
         let player = self.generator.below(round.keys.len());
@@ -231,8 +267,10 @@ impl Comparison {
     }
 
     fn drawn_join_shares(&mut self) {
-        let (players, value_bytes) = (self.generator.near(FEWEST_PLAYERS, MOST_PLAYERS), self.generator.near(1, MOST_VALUE_WIDTH));
-        let exact = players.wrapping_mul(value_bytes).min(1_000) as usize;
+        let players = self.generator.near(FEWEST_PLAYERS, MOST_PLAYERS);
+        let most = self.generator.pick(&[MOST_VALUE_WIDTH, MOST_SHARE_BYTES]);
+        let value_bytes = self.generator.near(1, most);
+        let exact = players.wrapping_mul(value_bytes).min(2_000) as usize;
         let length = self.generator.pick(&[exact, exact, exact, exact, exact, exact.saturating_sub(1), exact + 1, 0]);
         let shares = self.generator.bytes(length);
         let output = self.generator.output_length(value_bytes.min(1_000) as usize);

@@ -1,7 +1,8 @@
 //! What was met: how many of each refusal each operation gave, and which limits; and what must have been met.
 
 use crate::draw::in_two_blocks;
-use reference::board::{Board, MOST_GRID_ROWS, MOST_GRID_WIDTH, MOST_POSITIONS, MOST_VALUE_WIDTH};
+use nosingginger::{MOST_DECK_BYTES, MOST_SHARE_BYTES};
+use reference::board::{Board, FEWEST_PLAYERS, MOST_GRID_ROWS, MOST_GRID_WIDTH, MOST_PLAYERS, MOST_POSITIONS, MOST_VALUE_WIDTH};
 use reference::chacha::{BLOCK_BYTES, MOST_ROW_BYTES};
 
 #[derive(Clone, Copy, Debug, PartialEq, Eq)]
@@ -11,6 +12,7 @@ pub enum Operation {
     CheckKey,
     OpenOne,
     OpenAll,
+    DrawCard,
     JoinShares,
     JoinKeys,
     HeldSeed,
@@ -20,12 +22,13 @@ pub enum Operation {
 }
 
 /// The operations in their order, with the numbers that each can give.
-const OPERATIONS: [(Operation, &str, &[usize]); 11] = [
+const OPERATIONS: [(Operation, &str, &[usize]); 12] = [
     (Operation::KeyLength, "key length", &[1, 2, 3, 4, 5]),
     (Operation::Deal, "deal", &[1, 2, 3, 4, 5, 6, 7, 9, 18, 19, 20]),
     (Operation::CheckKey, "check key", &[1, 2, 3, 4, 5, 10, 11, 12, 13]),
     (Operation::OpenOne, "open one", &[1, 2, 3, 4, 5, 9, 10, 11, 12, 13, 14]),
     (Operation::OpenAll, "open all", &[1, 2, 3, 4, 5, 9, 10, 11, 12, 13]),
+    (Operation::DrawCard, "draw card", &[1, 2, 3, 4, 5, 9, 10, 11, 12, 13, 21, 22]),
     (Operation::JoinShares, "join shares", &[1, 4, 7, 9]),
     (Operation::JoinKeys, "join keys", &[1, 2, 3, 4, 5, 9, 10, 11, 12, 13, 15]),
     (Operation::HeldSeed, "held seed", &[]),
@@ -35,7 +38,7 @@ const OPERATIONS: [(Operation, &str, &[usize]); 11] = [
 ];
 
 /// Limits that calls must have met, those of boards in accepted dealings.
-const LIMITS: [&str; 27] = [
+const LIMITS: [&str; 37] = [
     "2 players",
     "3 players",
     "4 players",
@@ -63,10 +66,20 @@ const LIMITS: [&str; 27] = [
     "end at the longest row's end",
     "end one byte past it",
     "end past 64 bits",
+    "card of 0 bytes",
+    "card of 1 byte",
+    "card of 256 bytes",
+    "card of 257 bytes",
+    "deck one byte short",
+    "deck one byte long",
+    "deck of all cards' bytes modulo 2^32",
+    "the largest deck",
+    "shares of 256 bytes",
+    "shares of 257 bytes",
 ];
 
 /// Accepted, and every refusal. 8 is given no more.
-const NUMBERS: usize = 21;
+const NUMBERS: usize = 23;
 
 /// The refusals that come with a place, from 18 on.
 const PLACED: usize = 3;
@@ -93,6 +106,8 @@ pub struct Tally {
     places: [[u64; PLACES.len()]; PLACED],
     /// Cells in two blocks of their row that were opened alone, by the bytes of a value.
     in_two_blocks: [u64; MOST_VALUE_WIDTH as usize + 1],
+    /// Cards that all players drew and joined, by the players: those of an even value, and those of an odd one.
+    whole_draws: [[u64; 2]; MOST_PLAYERS as usize + 1],
 }
 
 impl Operation {
@@ -109,6 +124,7 @@ impl Tally {
             limits: [0; LIMITS.len()],
             places: [[0; PLACES.len()]; PLACED],
             in_two_blocks: [0; MOST_VALUE_WIDTH as usize + 1],
+            whole_draws: [[0; 2]; MOST_PLAYERS as usize + 1],
         }
     }
 
@@ -183,6 +199,33 @@ impl Tally {
         self.limit("end past 64 bits", number == 16 && end.is_none());
     }
 
+    /// A card of so many bytes that was asked of a deck of so many, with an accepted key of `positions`, and the number
+    /// that was given.
+    pub fn card(&mut self, positions: usize, deck: usize, card_bytes: u32, number: u32) {
+        let (deck, all) = (deck as u64, positions as u64 * u64::from(card_bytes));
+        let (accepted, refused) = (number == 0, number == 22);
+        let other_deck = refused && (1..=MOST_SHARE_BYTES).contains(&card_bytes);
+        self.limit("card of 0 bytes", refused && card_bytes == 0);
+        self.limit("card of 1 byte", accepted && card_bytes == 1);
+        self.limit("card of 256 bytes", accepted && card_bytes == MOST_SHARE_BYTES);
+        self.limit("card of 257 bytes", refused && card_bytes == MOST_SHARE_BYTES + 1);
+        self.limit("deck one byte short", other_deck && deck + 1 == all);
+        self.limit("deck one byte long", other_deck && deck == all + 1);
+        self.limit("deck of all cards' bytes modulo 2^32", refused && deck + (1 << 32) == all);
+        self.limit("the largest deck", accepted && deck == MOST_DECK_BYTES as u64);
+    }
+
+    /// A card that all players drew with the keys of a value, and joined.
+    pub fn whole_draw(&mut self, players: usize, value: u8) {
+        self.whole_draws[players][usize::from(value % 2)] += 1;
+    }
+
+    /// The bytes of each share that was joined, and the number that was given.
+    pub fn shares(&mut self, value_bytes: u32, number: u32) {
+        self.limit("shares of 256 bytes", number == 0 && value_bytes == MOST_SHARE_BYTES);
+        self.limit("shares of 257 bytes", number == 4 && value_bytes == MOST_SHARE_BYTES + 1);
+    }
+
     pub fn input(&mut self, length: usize) {
         self.limit("empty input", length == 0);
     }
@@ -229,6 +272,14 @@ impl Tally {
         let met = |width: usize| format!("{width}: {}", self.in_two_blocks[width]);
         let cells: Vec<String> = widths_in_two_blocks().map(met).collect();
         println!("open one's cells in two blocks, by value bytes: {}", cells.join(", "));
+        let met = |(players, [even, odd]): (usize, [u64; 2])| format!("{players}: {odd} and {even}");
+        let draws: Vec<String> = self.draws_of().map(met).collect();
+        println!("cards drawn by all players, of odd values and of even ones, by players: {}", draws.join(", "));
+    }
+
+    /// Each number of players, with its whole draws of even and of odd values.
+    fn draws_of(&self) -> impl Iterator<Item = (usize, [u64; 2])> + '_ {
+        (FEWEST_PLAYERS as usize..).zip(self.whole_draws[FEWEST_PLAYERS as usize..].iter().copied())
     }
 
     fn refused(&self, number: usize) -> u64 {
@@ -264,6 +315,9 @@ impl Tally {
         }
         for width in widths_in_two_blocks().filter(|&width| self.in_two_blocks[width] == 0) {
             faults.push(format!("never met: a cell of {width} bytes in two blocks, opened alone"));
+        }
+        for (players, draws) in self.draws_of().filter(|(_, draws)| draws.contains(&0)) {
+            faults.push(format!("never met: a card of an even or an odd value drawn by {players} players: {draws:?}"));
         }
         faults
     }

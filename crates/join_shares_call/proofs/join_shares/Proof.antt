@@ -8,7 +8,7 @@ use borrow.Author.Needs.{needs}
 use Rattle.call_answers.specs.Answers.{joined-shares, Join-says}
 use Rattle.call_answers.proofs.Answering.{put-refused, put-done}
 use Rattle.writer.proofs.Laws.{in-front-part}
-use Rattle.join_shares_call.proofs.Joining.{shares-fit}
+use Rattle.call_answers.proofs.Sharing.{shares-fit}
 use Rattle.join_shares_call.proofs.join_shares.Statement.{statement}
 use Rattle.join_shares_call.proofs.join_shares.Tie as tie
 

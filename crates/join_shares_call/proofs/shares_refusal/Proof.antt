@@ -2,7 +2,7 @@
 use native.Mathlib.Nat.{mul-le-mul}
 use native.Mathlib.Omega.{arith}
 use Rattle.grid.proofs.Refusing.{In, in-range, passed, failed}
-use Rattle.join_shares_call.proofs.Joining.{shares-1, shares-4, shares-7, shares-9, shares-0}
+use Rattle.call_answers.proofs.Sharing.{shares-1, shares-4, shares-7, shares-9, shares-0}
 use borrow.Author.Needs.{needs}
 use Rattle.join_shares_call.proofs.shares_refusal.Statement.{statement}
 use Rattle.join_shares_call.proofs.shares_refusal.Tie as tie
@@ -11,8 +11,8 @@ use Rattle.join_shares_call.proofs.shares_refusal.Tie as tie
 players-in : (c : tie.Else1) → In 2 (c .before .before .args .players) 6
 players-in c = passed (c .before .players-fit .ensures) (c .if1 .left)
 
-bytes-in : (c : tie.Else2) → In 1 (c .before .before .before .before .args .value-bytes) 16
-bytes-in c = passed (c .before .value-bytes-fit .ensures) (c .if2 .left)
+bytes-in : (c : tie.Else2) → In 1 (c .before .before .before .before .args .value-bytes) 256
+bytes-in c = passed (c .before .share-bytes-fit .ensures) (c .if2 .left)
 
 players-fit-requires : tie.Need-players-fit-requires
 players-fit-requires c κs = search needs
@@ -20,16 +20,16 @@ players-fit-requires c κs = search needs
 returns : tie.Need-returns
 returns c = shares-1 _ _ _ _ (failed (c .before .players-fit .ensures) (c .if1 .taken))
 
-value-bytes-fit-requires : tie.Need-value-bytes-fit-requires
-value-bytes-fit-requires c κs = search needs
+share-bytes-fit-requires : tie.Need-share-bytes-fit-requires
+share-bytes-fit-requires c κs = search needs
 
 returns-2 : tie.Need-returns-2
-returns-2 c = shares-4 _ _ _ _ (players-in (c .before .before)) (failed (c .before .value-bytes-fit .ensures) (c .if2 .taken))
+returns-2 c = shares-4 _ _ _ _ (players-in (c .before .before)) (failed (c .before .share-bytes-fit .ensures) (c .if2 .taken))
 
 mul-if3 : tie.Need-mul-if3
 mul-if3 c =
     let a = c .before .before .before .before .args in
-    omega (arith, mul-le-mul (in-range 2 (a .players) 6 (players-in (c .before .before)) .1) (in-range 1 (a .value-bytes) 16 (bytes-in c) .1))
+    omega (arith, mul-le-mul (in-range 2 (a .players) 6 (players-in (c .before .before)) .1) (in-range 1 (a .value-bytes) 256 (bytes-in c) .1))
 
 returns-3 : tie.Need-returns-3
 returns-3 c = shares-7 _ _ _ _ (players-in (c .before .before .before)) (bytes-in (c .before)) (c .if3 .taken)
@@ -48,7 +48,7 @@ shares-refusal-spec =
     (tie.spec
     players-fit-requires
     returns
-    value-bytes-fit-requires
+    share-bytes-fit-requires
     returns-2
     mul-if3
     returns-3

@@ -6,7 +6,8 @@ use denote.Ref.{now}
 use borrow.Rule.Slice.PartMut.{mid-len}
 use Rattle.chacha20.specs.From.{expand-from}
 use Rattle.chacha20.proofs.Stream.{word-from}
-use Rattle.seed_row.proofs.Walks.{Gone, none-gone, all-gone, next-written}
+use Rattle.xor.proofs.Walks.{Gone, none-gone, all-gone}
+use Rattle.seed_row.proofs.Walks.{next-written}
 use Rattle.seed_row.proofs.OneRow.{of-row}
 use Rattle.seed_row.proofs.expand.Statement.{statement}
 use Rattle.seed_row.proofs.expand.Tie as tie

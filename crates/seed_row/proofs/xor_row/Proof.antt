@@ -7,7 +7,8 @@ use denote.Ref.{now}
 use borrow.Rule.Slice.PartMut.{mid-len}
 use Rattle.xor.specs.Xor.{xors}
 use Rattle.chacha20.specs.From.{expand-from}
-use Rattle.seed_row.proofs.Walks.{Gone, none-gone, all-gone, xored-long, next-xored}
+use Rattle.xor.proofs.Walks.{Gone, none-gone, all-gone}
+use Rattle.seed_row.proofs.Walks.{xored-long, next-xored}
 use Rattle.seed_row.proofs.OneRow.{of-row}
 use Rattle.seed_row.proofs.xor_row.Statement.{statement}
 use Rattle.seed_row.proofs.xor_row.Tie as tie

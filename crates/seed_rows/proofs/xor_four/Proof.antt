@@ -6,7 +6,8 @@ use lib.ListN.{length}
 use denote.Ref.{now}
 use borrow.Rule.Slice.PartMut.{mid-len}
 use Rattle.xor.specs.Xor.{xors}
-use Rattle.seed_row.proofs.Walks.{Gone, none-gone, all-gone, xored-long, next-xored}
+use Rattle.xor.proofs.Walks.{Gone, none-gone, all-gone}
+use Rattle.seed_row.proofs.Walks.{xored-long, next-xored}
 use Rattle.seed_rows.specs.Rows.{rows-joined}
 use Rattle.seed_rows.proofs.Joined.{of-rows}
 use Rattle.seed_rows.proofs.xor_four.Statement.{statement}

@@ -1,0 +1,4 @@
+pub mod Masks
+pub mod Decks
+pub mod Bytes
+pub mod Sums
