@@ -14,7 +14,7 @@ use Rattle.grid.proofs.Cells.{take-zeros}
 use Rattle.keys.specs.Promise.{Rule-good}
 use Rattle.keys.proofs.Accepted.{Body-in}
 use Rattle.open_key.specs.Opened.{table-of, entries-long, entries-of}
-use Rattle.open_key.proofs.GridRows.{row-begins, rows-past, count-is, table-word}
+use Rattle.open_key.proofs.GridRows.{row-begins, rows-past, count-is, entries-cut, table-word}
 use Rattle.cards.specs.Cards.{picked, masks}
 use Rattle.cards.proofs.Masks.{picked-masks}
 use Rattle.cards.proofs.Decks.{picked-word, Remaining, next-picked, all-picked}
@@ -87,14 +87,14 @@ module _ (b : Board) (one : b .w ≡ 1) where
         (l : ℕ) (old deck out new cards : List ℕ) → length deck ≡ b .n * l → Remaining l old table deck out (min (g * b .wide) (b .n)) →
         length new ≡ length out → cards ≡ drop (at * l) deck → new ≡ xors out (picked l (entries-of b f bs g) cards) →
         Remaining l old table deck new (min ((g + 1) * b .wide) (b .n))
-    unfolding entries-of
     row-turn g at count inside place size l old deck out new cards long so-far same of-these made =
         let begins = row-begins b board g inside in
         let end = at + count in
         let here : min (g * b .wide) (b .n) ≡ at = omega arith in
         let there : min ((g + 1) * b .wide) (b .n) ≡ end = omega arith in
         let bytes : entries-long b g ≡ end - at = sym (row-count board g at count inside place size) ∙ omega arith in
-        let start : g * row-long b ≡ at = ap (λ (n : ℕ). g * n) (sym row-wide) ∙ sym place in
+        let start : at ≡ g * row-long b = place ∙ ap (λ (n : ℕ). g * n) row-wide in
+        let cut = entries-cut b f bs g at (end - at) start (sym bytes) in
         rw there
         (next-picked l old table deck out at (cards-enough l deck long) (rw here at so-far) end new (entries-of b f bs g) cards (omega arith)
-        (omega (arith, row-within board g at count inside place size, table-long)) same (rw (bytes, start)) of-these made)
+        (omega (arith, row-within board g at count inside place size, table-long)) same cut of-these made)

@@ -1,11 +1,9 @@
 // Draw card: Check key's numbers, 21, 22 and 9, and the XOR of the cards at which the entries of a key's full table are
 // odd (field: the answer of one server in private information retrieval). No table is kept: the entries are worked out
 // one grid row at a time. Assumes nothing.
+mod refusal;
+
 use call_answers::refusals::ACCEPTED;
-use call_answers::refusals::REFUSED_CARD_KEY;
-use call_answers::refusals::REFUSED_DECK;
-use call_answers::refusals::REFUSED_ROOM;
-use call_answers::share_bytes_fit;
 use cards::add_cards;
 use cards::make_masks;
 use grid::board::Board;
@@ -14,6 +12,7 @@ use key_header::KeyCheck;
 use open_key::add_entries;
 use open_key::least;
 use reader::part_from;
+use refusal::draw_refusal;
 use writer::clear;
 use writer::put;
 ghost use mathlib.Core.Path.{_≡_};
@@ -21,34 +20,12 @@ ghost use Prim.Native.Nat.{_*_, _≤_, _<_};
 ghost use lib.ListN.{length};
 ghost use Rattle.xor.specs.Xor.{xors};
 ghost use Rattle.seed_rows.specs.Rows.{rule};
-ghost use Rattle.grid.specs.Grid.{board-refusal, grid-rows};
+ghost use Rattle.grid.specs.Grid.{grid-rows};
 ghost use Rattle.grid.specs.Code.{board-of};
 ghost use Rattle.keys.specs.Keys.{Accepted-body};
 ghost use Rattle.open_key.specs.Opened.{table-of, entries-long, entries-of};
 ghost use Rattle.cards.specs.Cards.{picked};
-ghost use Rattle.call_answers.specs.Answers.{draw-refusal, Draw-says};
-
-// The numbers behind Check key's: 21, 22, 9, the first that fits, or 0. The card's length is tested before the deck's
-// is reckoned from it.
-fn draw_refusal(board: Board, card_bytes: u32, deck: usize, room: usize) -> u32
-    requires { ⌜ board-refusal (board-of board) ≡ 0 ⌝ }
-    ensures { λ r. ⌜ r ≡ draw-refusal (board-of board) «card_bytes» deck room ⌝ }
-{
-    if board.value_bytes != 1 {
-        return REFUSED_CARD_KEY;
-    }
-    if !share_bytes_fit(card_bytes) {
-        return REFUSED_DECK;
-    }
-    let card = card_bytes as usize;
-    if deck != board.positions as usize * card {
-        return REFUSED_DECK;
-    }
-    if room < card {
-        return REFUSED_ROOM;
-    }
-    ACCEPTED
-}
+ghost use Rattle.call_answers.specs.Answers.{Draw-says};
 
 // XORs into `sum`, which has a card's length, what the entries of one grid row pick of the cards, which begin with that
 // grid row's first. `shares` is lent to work in, a byte for each entry.

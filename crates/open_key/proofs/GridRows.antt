@@ -6,7 +6,7 @@ use Prim.Native.Nat.{ℕ, zero, suc, _+_, _*_, _-_, _/_, _≤_, _<_, min}
 use native.Mathlib.Nat.{mul-le-mul-right, le-div-iff-mul-le, lt-div-mul-add, min-eq-left, min-eq-right}
 use native.Mathlib.Decide.{decLe}
 use native.Mathlib.Omega.{arith}
-use lib.ListN.{length, length-drop}
+use lib.ListN.{length, take, drop, length-drop}
 use lib.Seq.{take-at, drop-at}
 use Rattle.xor.specs.Xor.{xors, zeros}
 use Rattle.xor.proofs.Laws.{Word, xors-zeros-left}
@@ -115,7 +115,15 @@ table-add (suc m) k a b f q =
     let next : a + suc m ≡ suc a + m = omega arith in
     rw (more, next, table-add m k (suc a) b f q) (sym (append-assoc (share-by-parts b f q a) (table-from m (suc a) b f q) (table-from k (suc a + m) b f q)))
 
--- WHICH BYTES THESE ARE: the first of the grid row's shares
+-- WHICH BYTES THESE ARE
+
+-- by the code's numbers
+pub entries-cut : (b : Board) (f : List ℕ → List ℕ) (bs : List ℕ) (g at count : ℕ) → at ≡ g * row-long b → count ≡ entries-long b g →
+    entries-of b f bs g ≡ take count (drop at (table-of b f bs))
+unfolding entries-of
+entries-cut b f bs g at count place size = rw (place, size)
+
+-- the first of the grid row's shares
 
 module _ (b : Board) (f : List ℕ → List ℕ) (bs : List ℕ) (board : Board-in b) (rule : Rule-good b f) (body : Body-in b bs)
     (g : ℕ) (inside : g < grid-rows b)

@@ -16,8 +16,8 @@ use Rattle.grid.specs.Grid.{Board, board, grid-rows, row-long}
 use Rattle.grid.specs.Code.{board-of}
 use Rattle.grid.proofs.Facts.{Board-in, board-in, grid-rows-pos}
 use Rattle.keys.proofs.Accepted.{Body-in, body-good}
-use Rattle.open_key.specs.Opened.{table-of, entries-long, entries-of}
-use Rattle.open_key.proofs.GridRows.{row-in-table, rows-past, count-is, expansion, table-word}
+use Rattle.open_key.specs.Opened.{table-of, entries-long}
+use Rattle.open_key.proofs.GridRows.{row-in-table, rows-past, count-is, entries-cut, expansion, table-word}
 use Rattle.open_key.proofs.add_table.Statement.{statement}
 use Rattle.open_key.proofs.add_table.Tie as tie
 
@@ -104,7 +104,6 @@ entries-count c =
 
 -- a turn adds one grid row
 loop-again : tie.Need-loop-again Inv-loop μ-loop
-unfolding entries-of
 loop-again c =
     let done = c .before .before .add-entries in
     let n = c .before .before .before .before in
@@ -124,7 +123,9 @@ loop-again c =
     let ended : min ((l .grid-row + 1) * row) (length old) ≡ end = omega (arith, n .least .ensures, at-within (n .before)) in
     let bytes : end - at ≡ entries-long b (l .grid-row) = (let cut : end - at ≡ size = omega arith in cut ∙ entries-count n) in
     let new = done .last .1 .1 .1 .0 in
-    let new-is : new ≡ xors (midOf at (end - at) (l .out)) (take (end - at) (drop at table)) = done .ensures ∙ rw (← bytes, ← (at-is (n .before))) in (
+    let cut = entries-cut b (rule b) (body s) (l .grid-row) at (end - at) (at-is (n .before)) bytes in
+    let new-is : new ≡ xors (midOf at (end - at) (l .out)) (take (end - at) (drop at table)) =
+    done .ensures ∙ ap (λ (row : List ℕ). xors (midOf at (end - at) (l .out)) row) cut in (
       omega (arith, inside (n .before), m .before .grid-rows .ensures),
       rw ended
           (next-xored table old (l .out) at (table-long m) (rw begun at so-far) end new (omega arith) (end-within n)

@@ -1,4 +1,4 @@
--- `draw_call::draw_refusal` meets its contract: each answer is a link of the chain. Assumes nothing.
+-- `draw_call::refusal::draw_refusal` meets its contract: each answer is a link of the chain. Assumes nothing.
 use Prim.Native.Nat.{_*_, _≤_}
 use native.Mathlib.Nat.{mul-le-mul}
 use native.Mathlib.Omega.{arith}
@@ -8,8 +8,8 @@ use Rattle.grid.specs.Code.{board-of}
 use Rattle.grid.proofs.Facts.{board-in}
 use Rattle.grid.proofs.Refusing.{In, in-range, passed, failed}
 use Rattle.call_answers.proofs.Drawing.{draw-21, draw-22-long, draw-22-deck, draw-9, draw-0}
-use Rattle.draw_call.proofs.draw_refusal.Statement.{statement}
-use Rattle.draw_call.proofs.draw_refusal.Tie as tie
+use Rattle.draw_call.proofs.refusal.draw_refusal.Statement.{statement}
+use Rattle.draw_call.proofs.refusal.draw_refusal.Tie as tie
 
 -- what each test has shown where it was passed
 long-in : (c : tie.Else2) → In 1 (c .before .before .before .before .args .card-bytes) 256
