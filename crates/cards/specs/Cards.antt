@@ -20,7 +20,7 @@ unfoldable pub picked : (long : ℕ) → (shares deck : List ℕ) → List ℕ
 picked l [] deck = zeros l
 picked l (s ∷ ss) deck = xors (at-share l s (take l deck)) (picked l ss (drop l deck))
 
--- a mask in a share's place: all bits where the share's lowest is set, and none elsewhere; it picks what the share picks
+-- a mask in a share's place, which picks what the share picks: all bits where the share's lowest is set, else none
 unfoldable pub mask : (share : ℕ) → ℕ
 mask s = cond (bit s 0) 255 0
 

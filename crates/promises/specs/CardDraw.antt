@@ -53,7 +53,7 @@ Deals-give-the-card =
     Dealt p n m 1 point value long keys-now → share-fits l ≡ true → length deck ≡ n * l → bytes-good deck ≡ true →
     Draws-good p point value long keys-now l deck
 
--- any accepted key with w 1, dealt or not, and any deck of its board: Draw card, where 9 doesn't refuse, is answered by 0
+-- any accepted key with w 1, dealt or not, and any deck of its board: Draw card is answered by 0 where 9 doesn't refuse
 unfoldable pub Accepted-draws : Type 0
 Accepted-draws =
     (key deck : List ℕ) (l r : ℕ) (out out-now : List ℕ) → key-refusal key ≡ 0 → head-in key .board .w ≡ 1 →
