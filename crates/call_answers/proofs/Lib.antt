@@ -6,3 +6,4 @@ pub mod Telling
 pub mod Drawing
 pub mod Sharing
 pub mod AsWritten
+pub mod Paging

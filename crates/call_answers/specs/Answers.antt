@@ -1,8 +1,8 @@
 -- What the operations answer and leave behind: document 03's Entry, word for word but for two names, `width-refusal`
--- and `expand-refusal`, and for what document 02 asks: Deal's place, (i), Expand's start, (ii), and Draw card with the
--- width of shares, (iii). Each is an equation that fixes the number, the value and every lent byte, refused calls too.
--- Join keys has its own file; Check key and Held seed answer as the crates key_header and keys say. Assumes nothing:
--- these are definitions.
+-- and `expand-refusal`, and for what document 02 asks: Deal's place, (i), Expand's start, (ii), Draw card with the width
+-- of shares, (iii), and Write page, (iv). Each is an equation that fixes the number, the value and every lent byte,
+-- refused calls too. Join keys has its own file; Check key and Held seed answer as the crates key_header and keys say.
+-- Assumes nothing: these are definitions.
 use mathlib.Core.Path.{_≡_}
 use mathlib.Core.Bool.{Bool, _&&_, not, cond}
 use mathlib.Core.List.{List, [], _∷_}
@@ -13,11 +13,12 @@ use Rattle.xor.specs.Xor.{xors, zeros}
 use Rattle.writer.specs.Written.{in-front}
 use Rattle.chacha20.specs.From.{expand-from}
 use Rattle.seed_rows.specs.Rows.{rule}
-use Rattle.grid.specs.Grid.{Board, board, board-refusal, players-fit, positions-fit}
+use Rattle.grid.specs.Grid.{Board, board, board-refusal, players-fit, positions-fit, value-fits}
 use Rattle.grid.specs.Width.{width, sensor-position}
 use Rattle.keys.specs.Keys.{or-else, lent, deal-refusal, deal-place, keys-from, key-long, key-refusal}
 use Rattle.keys.specs.Keys.{head-in, opened, table}
 use Rattle.cards.specs.Cards.{picked}
+use Rattle.page.specs.Page.{page, page-long}
 use Rattle.call_answers.specs.declared.Answer.{Answer}
 use Rattle.call_answers.specs.declared.DealAnswer.{DealAnswer}
 
@@ -125,3 +126,15 @@ Width-says p n r = says (width-refusal p n) (width p n) r
 -- SENSOR POSITION: 17
 unfoldable pub Sensor-says : (s : ℕ) → Answer → Type 0
 Sensor-says s r = says (cond (leb 72 s) 17 0) (sensor-position s) r
+
+-- WRITE PAGE: "the order is 2, 4, 7, 9"
+unfoldable pub page-refusal : (n w long room : ℕ) → ℕ
+page-refusal n w l o =
+    cond (not (positions-fit n)) 2
+    (cond (not (value-fits w)) 4 (cond (not (eqb l (n * w))) 7 (cond (ltb o (page-long n w)) 9 0)))
+
+-- it writes the page, and "the answer gives the bytes written"
+unfoldable pub Page-says : (n w : ℕ) → (table : List ℕ) → Answer → (out out-now : List ℕ) → Type 0
+Page-says n w ts r o z =
+    says (page-refusal n w (length ts) (length o)) (page-long n w) r
+    × Put-says (page-refusal n w (length ts) (length o)) (page n w ts) (r .refusal) o z

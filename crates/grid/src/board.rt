@@ -73,7 +73,7 @@ fn width_fits(width: u32) -> bool
 }
 
 // Whether a value can have so many bytes.
-fn value_bytes_fit(value_bytes: u32) -> bool
+pub fn value_bytes_fit(value_bytes: u32) -> bool
     ensures { λ r. ⌜ r ≡ value-fits «value_bytes» ⌝ }
 {
     within(1, value_bytes, MOST_VALUE_BYTES)

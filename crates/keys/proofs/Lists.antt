@@ -5,11 +5,13 @@ use mathlib.Core.List.{List, [], _∷_, _++_, append-assoc}
 use Prim.Native.Nat.{ℕ, zero, suc, _+_, _*_, _≤_, _<_}
 use native.Mathlib.Omega.{arith}
 use lib.Dec.{eqb}
-use lib.ListN.{length, getD, take, drop, length-append, length-drop, replicate-append-replicate}
+use lib.ListN.{length, getD, take, drop, length-append, length-drop}
 use lib.Seq.{take-add, drop-drop, take-at, drop-at, length-take-le}
 use borrow.Author.Tests.{eqb-true, eq-eqb}
 use Rattle.xor.specs.Xor.{xors, zeros, bytes-good}
 use Rattle.xor.proofs.Laws.{Word, good-append, good-take, good-drop, append-xors, and-left, and-right, and-both}
+use Rattle.writer.specs.InARow.{in-a-row}
+use Rattle.writer.proofs.InARow.{row-repeat}
 use Rattle.grid.specs.Grid.{each-long}
 use Rattle.keys.specs.Keys.{glued, words-from}
 
@@ -128,18 +130,9 @@ words-glue (suc k) l (w ∷ ws) rest e h =
     rw (append-assoc w (glued ws) rest, take-at w (glued ws ++ rest) l long, drop-at w (glued ws ++ rest) l long)
     (ap (λ (vs : List (List ℕ)). w ∷ vs) (words-glue k l ws rest (omega arith) (each-tail l w ws h)))
 
--- STRINGS IN A ROW: F i, F (i + 1), .. one after another, k of them
+-- STRINGS IN A ROW
 
-unfoldable pub in-a-row : (left i : ℕ) → (F : ℕ → List ℕ) → List ℕ
-in-a-row zero i F = []
-in-a-row (suc k) i F = F i ++ in-a-row k (suc i) F
-
-pub row-same : (k i : ℕ) (F G : ℕ → List ℕ) → ((j : ℕ) → i ≤ j → j < i + k → F j ≡ G j) → in-a-row k i F ≡ in-a-row k i G
-unfolding in-a-row
-row-same zero i F G h = refl
-row-same (suc k) i F G h = rw (h i (omega arith) (omega arith), row-same k (suc i) F G (λ j p q. h j (omega arith) (omega arith)))
-
--- strings of one length make a string of k times that length
+-- words of one length make a word of k times that length
 pub row-word : (l k i : ℕ) (F : ℕ → List ℕ) → ((j : ℕ) → i ≤ j → j < i + k → Word l (F j)) → Word (k * l) (in-a-row k i F)
 unfolding in-a-row bytes-good
 row-word l zero i F h = record { long = omega arith; good = refl }
@@ -150,31 +143,6 @@ row-word l (suc k) i F h =
       long = length-append (F i) (in-a-row k (suc i) F) ∙ omega (arith, first .long, others .long);
       good = good-append (F i) (in-a-row k (suc i) F) (first .good) (others .good);
     }
-
--- and are found again by their place
-pub row-at : (l k i m : ℕ) (F : ℕ → List ℕ) → ((j : ℕ) → i ≤ j → j < i + k → length (F j) ≡ l) → m < k → take l (drop (m * l) (in-a-row k i F)) ≡ F (i + m)
-unfolding in-a-row
-row-at l zero i m F h p = let none : ⊥ = omega arith in absurd none
-row-at l (suc k) i zero F h p =
-    let none : zero * l ≡ zero = omega arith in
-    let here : i + zero ≡ i = omega arith in
-    rw (none, here) (take-at (F i) (in-a-row k (suc i) F) l (h i (omega arith) (omega arith)))
-row-at l (suc k) i (suc m) F h p =
-    let next : suc m * l ≡ l + m * l = omega arith in
-    let later : i + suc m ≡ suc i + m = omega arith in
-    rw (next, later, ← drop-drop (m * l) l (F i ++ in-a-row k (suc i) F), drop-at (F i) (in-a-row k (suc i) F) l (h i (omega arith) (omega arith)))
-    (row-at l k (suc i) m F (λ j a b. h j (omega arith) (omega arith)) (omega arith))
-
-pub row-split : (m k i : ℕ) (F : ℕ → List ℕ) → in-a-row (m + k) i F ≡ in-a-row m i F ++ in-a-row k (i + m) F
-unfolding in-a-row
-row-split zero k i F =
-    let all : zero + k ≡ k = omega arith in
-    let here : i + zero ≡ i = omega arith in
-    rw (all, here)
-row-split (suc m) k i F =
-    let more : suc m + k ≡ suc (m + k) = omega arith in
-    let later : i + suc m ≡ suc i + m = omega arith in
-    rw (more, later, row-split m k (suc i) F) (sym (append-assoc (F i) (in-a-row m (suc i) F) (in-a-row k (suc i + m) F)))
 
 -- XOR goes string by string
 pub row-xors : (l k i : ℕ) (F G : ℕ → List ℕ) → ((j : ℕ) → i ≤ j → j < i + k → (length (F j) ≡ l) × (length (G j) ≡ l)) →
@@ -187,8 +155,5 @@ row-xors l (suc k) i F G h =
     ∙ ap (λ (r : List ℕ). xors (F i) (G i) ++ r) (row-xors l k (suc i) F G (λ j p q. h j (omega arith) (omega arith)))
 
 pub row-zeros : (l k i : ℕ) → in-a-row k i (λ j. zeros l) ≡ zeros (k * l)
-unfolding in-a-row zeros
-row-zeros l zero i = let none : zero * l ≡ zero = omega arith in rw none
-row-zeros l (suc k) i =
-    let first : suc k * l ≡ l + k * l = omega arith in
-    rw (row-zeros l k (suc i), first) (replicate-append-replicate l (k * l) 0)
+unfolding zeros
+row-zeros l k i = row-repeat l k i 0

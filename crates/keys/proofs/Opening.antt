@@ -15,7 +15,9 @@ use Rattle.grid.proofs.Facts.{Board-in, grid-row-in, cell-in, each-word}
 use Rattle.grid.proofs.Cells.{cell-word}
 use Rattle.keys.specs.Keys.{mark-bytes, stride, count-marks, marks-good, words-from, grid-row-part, word-behind, opened-from, opened-part, Parts, marks-in, marks-of-grid-rows, seeds-of-grid-rows, parts-of, parts-share, share-by-parts, table-from}
 use Rattle.keys.specs.Promise.{Rule-good}
-use Rattle.keys.proofs.Lists.{length-words, words-at, each-head, each-tail, each-drop, in-a-row, row-word, row-at}
+use Rattle.writer.specs.InARow.{in-a-row}
+use Rattle.writer.proofs.InARow.{row-at}
+use Rattle.keys.proofs.Lists.{length-words, words-at, each-head, each-tail, each-drop, row-word}
 use Rattle.keys.proofs.Marks.{marks-set, length-marks}
 use Rattle.keys.proofs.Parts.{row-tests}
 use Rattle.keys.proofs.Accepted.{Parts-good, Body-in}

@@ -21,7 +21,9 @@ use Rattle.keys.specs.Promise.{Rule-good, lent-good, dealt-parts, entry,
 use Rattle.keys.specs.Promise.{Header-reads, Reads-parts, Only-writing, Same-parts, Dealt-accepted, Keys-long, Keys-apart}
 use Rattle.keys.specs.Promise.{Table-long, Opens-alone, Keys-open, Tables-join, Full-tables-join}
 use Rattle.keys.specs.Promise.{Accepted-is-drawn, Held-is-read, Same-keys, Same-keys-for-others, Keys-tell-nothing}
-use Rattle.keys.proofs.Lists.{in-a-row, row-same, row-word, row-at, row-split, row-xors, row-zeros}
+use Rattle.writer.specs.InARow.{in-a-row}
+use Rattle.writer.proofs.InARow.{row-same, row-at, row-split}
+use Rattle.keys.proofs.Lists.{row-word, row-xors, row-zeros}
 use Rattle.keys.proofs.Numbers.{header-again}
 use Rattle.keys.proofs.Accepted.{Key-in, key-in, key-accepted, body-in, body-parts, Parts-good, key-again, written-head, written-key, written-long, written-good, written-reads}
 use Rattle.keys.proofs.Opening.{share-word, table-row, table-word, table-at, opened-part-is}
@@ -181,7 +183,7 @@ unfolding Tables-join Shares-join Accepted-is-drawn dealing
 tables-join b f l a lent rule h = shares-join b (dealing b f l) a (accepted-is-drawn b f l lent rule) h
 
 -- a value at a point and zeros elsewhere, entry by entry
-point-row : (b : Board) (point : ℕ) (value : List ℕ) → point < b .n →
+pub point-row : (b : Board) (point : ℕ) (value : List ℕ) → point < b .n →
     in-a-row (b .n) 0 (λ a. cond (eqb a point) value (zeros (b .w))) ≡ point-table b point value
 unfolding point-table in-a-row
 point-row b point value h =

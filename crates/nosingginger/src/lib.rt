@@ -1,7 +1,7 @@
 // The operations that a board and a phone call. None requires anything: each answers 0 or the first refusal number that
 // fits, and its contract, a definition of the crate call_answers, fixes the number, the value or the place, and every
-// lent byte, of refused calls too. A refused call changes nothing that is lent. Deal, the openings, the draw and the
-// joins are crates of their own, passed on here, as are Check key and Held seed of the crate key_check. Assumes
+// lent byte, of refused calls too. A refused call changes nothing that is lent. Deal, the openings, the draw, the joins
+// and the page are crates of their own, passed on here, as are Check key and Held seed of the crate key_check. Assumes
 // nothing.
 ghost use Rattle.call_answers.specs.Answers.{Long-says, Expand-says, Width-says, Sensor-says};
 
@@ -35,6 +35,7 @@ pub use key_header::Heading;
 pub use key_header::KeyCheck;
 pub use open_call::open_all;
 pub use open_call::open_one;
+pub use page_call::write_page;
 
 // The most bytes of a row.
 pub const MOST_ROW_BYTES: usize = 4096;

@@ -1,5 +1,5 @@
 -- What a C function leaves behind a pointer, from what the operation under it answers. Assumes nothing.
-use mathlib.Core.Path.{_≡_, refl, subst, subst⁻¹, _∙_}
+use mathlib.Core.Path.{_≡_, refl, sym, subst, subst⁻¹, _∙_}
 use mathlib.Core.Bool.{Bool, true, false, cond}
 use mathlib.Core.List.{List, [], _∷_}
 use Prim.Native.Nat.{ℕ}
@@ -30,16 +30,28 @@ pub value-written : (n v o : ℕ) → n ≡ 0 → Value-put n v 0 o v
 unfolding Value-put
 value-written n v o h = rw h (refl, refl)
 
+-- an answer is its number and its value
+both-fields : (a : Answer) (n v : ℕ) → a .refusal ≡ n → a .value ≡ v → a ≡ record { refusal = n; value = v }
+both-fields a n v e f =
+    subst (λ (m : ℕ). a ≡ record { refusal = m; value = v }) e (subst (λ (k : ℕ). a ≡ record { refusal = a .refusal; value = k }) f refl)
+
+-- whatever is said of an answer is said through the pointer where its value was put
+pub said-through : (A : Answer → Type 0) (n v : ℕ) (a : Answer) (r o z : ℕ) → A a → says n v a → Value-put (a .refusal) (a .value) r o z → Through A r o z
+unfolding says Value-put Through
+said-through A n v a r o z said s p =
+    let number : a .refusal ≡ r = sym (p .0) in
+    let value : z ≡ cond (eqb r 0) (a .value) o = subst (λ (m : ℕ). z ≡ cond (eqb m 0) (a .value) o) number (p .1) in
+    let none : a .value ≡ cond (eqb r 0) v 0 = subst (λ (m : ℕ). a .value ≡ cond (eqb m 0) v 0) (sym (s .0) ∙ number) (s .1) in
+    let both = go (eqb r 0) none value in
+    (subst (λ (b : Answer). A b) (both-fields a r (cond (eqb r 0) z 0) number (both .0)) said, both .1)
+  where
+    go : (t : Bool) → a .value ≡ cond t v 0 → z ≡ cond t (a .value) o → (a .value ≡ cond t z 0) × (z ≡ cond t z o)
+    go true e f = (sym f, refl)
+    go false e f = (e, f)
+
 -- an answer whose value was put is the operation's answer through the pointer
 pub through : (n v : ℕ) (a : Answer) (r o z : ℕ) → says n v a → Value-put (a .refusal) (a .value) r o z → Through (λ b. says n v b) r o z
-unfolding says Value-put Through
-through n v a r o z s p =
-    let value : z ≡ cond (eqb n 0) (a .value) o = subst (λ (m : ℕ). z ≡ cond (eqb m 0) (a .value) o) (s .0) (p .1) in
-    let both = go (eqb n 0) (s .1) value in rw (p .0 ∙ s .0) ((refl, both .0), both .1)
-  where
-    go : (t : Bool) → a .value ≡ cond t v 0 → z ≡ cond t (a .value) o → (cond t z 0 ≡ cond t v 0) × (z ≡ cond t z o)
-    go true e f = (f ∙ e, refl)
-    go false e f = (refl, f)
+through n v a r o z s p = said-through (λ b. says n v b) n v a r o z s s p
 
 -- what Deal answers, with the place of a fault behind the pointer
 module _ (p n m w a : ℕ) (v cs ss ws o z f : List ℕ) where

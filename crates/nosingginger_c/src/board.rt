@@ -1,20 +1,8 @@
 // What a board's numbers ask for, before anything is dealt: Choose width, Key length and Sensor position as C functions,
 // each value through a pointer. Assumes nothing.
 ghost use Rattle.call_answers.specs.Answers.{Long-says, Width-says, Sensor-says};
-ghost use Rattle.nosingginger_c.specs.C.{Through, Value-put};
-use nosingginger::Answer;
-use nosingginger::refusals::ACCEPTED;
-
-// Writes the value of an accepted answer; answers the number.
-fn put_value(answer: Answer, value: &mut u32) -> u32
-    ensures { λ r. ⌜ Value-put (answer .refusal) (answer .value) r (now (value .entry)) (now (value .exit)) ⌝ }
-{
-    if answer.refusal != ACCEPTED {
-        return answer.refusal;
-    }
-    *value = answer.value;
-    ACCEPTED
-}
+ghost use Rattle.nosingginger_c.specs.C.{Through};
+use crate::value::put_value;
 
 // CHOOSE WIDTH.
 #[no_mangle]

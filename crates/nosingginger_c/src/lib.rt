@@ -7,4 +7,6 @@ pub mod draw;
 pub mod join;
 pub mod key;
 pub mod open;
+pub mod page;
 pub mod seed;
+mod value;

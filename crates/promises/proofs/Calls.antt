@@ -15,7 +15,7 @@ use Rattle.key_check.specs.Checked.{head-numbers, checked-as, key-checked}
 use Rattle.key_header.specs.declared.KeyCheck.{KeyCheck}
 use Rattle.keys.proofs.Promise.{dealt-accepted, dealt-board, dealt-player, accepted-is-drawn, held-is-read}
 use Rattle.call_answers.specs.Answers.{key-rule, Deal-says, Open-one-says, Open-all-says, Draw-says}
-use Rattle.call_answers.specs.Answers.{joined-shares, Join-says, Expand-says}
+use Rattle.call_answers.specs.Answers.{joined-shares, Join-says, Expand-says, Page-says}
 use Rattle.seed_rows.specs.Rows.{rule}
 use Rattle.join_keys_call.specs.JoinKeys.{joined-table, Join-keys-says}
 use Rattle.promises.specs.Calls.{key-part, Deals-open, dealing-of, Deals-drawn, Accepted-opens, Opens-agree, Joins-agree}
@@ -25,6 +25,8 @@ use Rattle.call_answers.proofs.Putting.{answer-is, put, untouched, take-front, 
 use Rattle.promises.proofs.OpenedKey.{expansion, all-answered, one-answered, all-opened, one-opened, own-table-long, own-entry, own-entry-long, entry-fits}
 use Rattle.cards.specs.Cards.{picked}
 use Rattle.promises.proofs.DrawnCards.{card-drawn, own-picked}
+use Rattle.page.specs.Page.{page}
+use Rattle.promises.proofs.WrittenPages.{page-written}
 use Rattle.promises.proofs.JoinedKeys.{joined-says, part-fine, joined-word, joined-as-opened}
 use Rattle.promises.proofs.DealtCalls.{past, left, part-is, part-opens, parts-join, parts-joined, keys-past, square-joined}
 
@@ -105,7 +107,7 @@ joins-agree keys out out-now good says =
 -- REFUSALS
 
 pub refused-leaves : Refused-leaves
-unfolding Untouched Deal-says Open-one-says Open-all-says Draw-says Join-says Join-keys-says Expand-says
+unfolding Untouched Deal-says Open-one-says Open-all-says Draw-says Join-says Join-keys-says Expand-says Page-says
 refused-leaves =
     record {
       deal = λ p n m w point value arrays seeds words r out out-now h. untouched _ _ r out out-now h;
@@ -115,6 +117,7 @@ refused-leaves =
       join-shares = λ p w shares r out out-now h. untouched _ _ r out out-now h;
       join-keys = λ keys r out out-now h. untouched _ _ r out out-now h;
       expand = λ seed s r out out-now h. untouched _ _ r out out-now h;
+      write-page = λ n w ts r out out-now h. untouched _ _ (r .refusal) out out-now (h .1);
     }
 
 -- BYTES PAST THOSE NAMED
@@ -154,4 +157,7 @@ answered-keeps =
           let b = head-in keys .board in
           let t = joined-says keys out out-now h in
           past (b .n * b .w) (joined-table (b .p) b keys) out out-now (joined-word keys out out-now b good t .long) (t .room) (t .now);
+      write-page = λ n w ts r out out-now h none.
+          let called = page-written n w ts r out out-now h none in
+          past (r .value) (page n w ts) out out-now (called .long) (called .room) (called .now);
     }

@@ -2,6 +2,7 @@
 pub mod Daggers
 pub mod OpenedKey
 pub mod DrawnCards
+pub mod WrittenPages
 pub mod DealtKeys
 pub mod DealtCalls
 pub mod JoinedKeys
@@ -14,6 +15,7 @@ pub mod RestsOn
 pub mod BadArrays
 pub mod Expansion
 pub mod CardDraw
+pub mod BoardPage
 pub mod ChooseWidth
 pub mod PrintedNumbers
 pub mod Document03

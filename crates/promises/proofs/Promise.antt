@@ -10,6 +10,7 @@ use Rattle.promises.proofs.RestsOn.{rests-on}
 use Rattle.promises.proofs.BadArrays.{bad-arrays}
 use Rattle.promises.proofs.Expansion.{expansion}
 use Rattle.promises.proofs.CardDraw.{card-draw}
+use Rattle.promises.proofs.BoardPage.{board-page}
 use Rattle.promises.proofs.ChooseWidth.{choose-width}
 use Rattle.promises.proofs.PrintedNumbers.{printed-numbers}
 use Rattle.promises.proofs.Document03.{document-03}
@@ -25,6 +26,7 @@ promises =
       bad-arrays = bad-arrays;
       expansion = expansion;
       card-draw = card-draw;
+      board-page = board-page;
       choose-width = choose-width;
       printed-numbers = printed-numbers;
       document-03 = document-03;

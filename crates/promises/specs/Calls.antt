@@ -16,7 +16,7 @@ use Rattle.key_check.specs.Checked.{checked-as, key-checked}
 use Rattle.key_header.specs.declared.KeyCheck.{KeyCheck}
 use Rattle.keys.specs.Promise.{entry, point-table, held-in}
 use Rattle.call_answers.specs.Answers.{Deal-says, Long-says, Open-one-says, Open-all-says, Draw-says, Join-says}
-use Rattle.call_answers.specs.Answers.{Expand-says}
+use Rattle.call_answers.specs.Answers.{Expand-says, Page-says}
 use Rattle.seed_rows.specs.Rows.{rule}
 use Rattle.writer.specs.Written.{in-front}
 use Rattle.join_keys_call.specs.JoinKeys.{Join-keys-says}
@@ -129,12 +129,14 @@ pub record Refused-leaves : Type 0 where
   pub join-keys : (keys : List ℕ) (r : ℕ) (out out-now : List ℕ) → Join-keys-says keys r out out-now → Untouched r out out-now
   pub expand : (seed : List ℕ) (s r : ℕ) (out out-now : List ℕ) → Expand-says seed s r out out-now →
       Untouched r out out-now
+  pub write-page : (n w : ℕ) (table : List ℕ) (r : Answer) (out out-now : List ℕ) →
+      Page-says n w table r out out-now → Untouched (r .refusal) out out-now
 
 -- what a call that answered 0 left past the bytes that it names
 unfoldable pub Past-kept : (named : ℕ) → (out out-now : List ℕ) → Type 0
 Past-kept k out out-now = (length out-now ≡ length out) × (drop k out-now ≡ drop k out)
 
--- "Output past the bytes named keeps its bytes": p × K, w, N × w, L, w and N × w bytes
+-- "Output past the bytes named keeps its bytes": p × K, w, N × w, L, w and N × w bytes, and as many as Write page tells
 pub record Answered-keeps : Type 0 where
   pub deal : (p n m w point : ℕ) (value : List ℕ) (long : Answer) (keys-now : List ℕ) (dealt : Dealt p n m w point value long keys-now) →
       Past-kept (p * long .value) (dealt .keys) keys-now
@@ -147,3 +149,5 @@ pub record Answered-keeps : Type 0 where
   pub join-shares : (p w : ℕ) (shares : List ℕ) (out out-now : List ℕ) → Join-says p w shares 0 out out-now → Past-kept w out out-now
   pub join-keys : (keys : List ℕ) (out out-now : List ℕ) → bytes-good keys ≡ true → Join-keys-says keys 0 out out-now →
       Past-kept (head-in keys .board .n * head-in keys .board .w) out out-now
+  pub write-page : (n w : ℕ) (table : List ℕ) (r : Answer) (out out-now : List ℕ) →
+      Page-says n w table r out out-now → r .refusal ≡ 0 → Past-kept (r .value) out out-now

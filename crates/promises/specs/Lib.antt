@@ -8,6 +8,7 @@ pub mod RestsOn
 pub mod BadArrays
 pub mod Expansion
 pub mod CardDraw
+pub mod BoardPage
 pub mod ChooseWidth
 pub mod PrintedNumbers
 pub mod Document03

@@ -10,6 +10,7 @@ pub use Rattle.promises.specs.RestsOn.{Rests-on}
 pub use Rattle.promises.specs.BadArrays.{Bad-arrays}
 pub use Rattle.promises.specs.Expansion.{Expansion}
 pub use Rattle.promises.specs.CardDraw.{Card-draw}
+pub use Rattle.promises.specs.BoardPage.{Board-page}
 pub use Rattle.promises.specs.ChooseWidth.{Choose-width}
 pub use Rattle.promises.specs.PrintedNumbers.{Printed-numbers}
 pub use Rattle.promises.specs.Document03.{Document-03}
@@ -31,6 +32,8 @@ pub record Promises : Type 0 where
   pub expansion : Expansion
   -- what Draw card's answers join to
   pub card-draw : Card-draw
+  -- what a reader finds on a page
+  pub board-page : Board-page
   pub choose-width : Choose-width
   pub printed-numbers : Printed-numbers
   -- document 03's own statements

@@ -80,16 +80,6 @@ pub lines-within : (k n w : ℕ) (ts : List ℕ) → k < n →
     length (position-lines k 0 w ts) + length (position-line k (take w (drop (k * w) ts))) ≤ length (position-lines n 0 w ts)
 lines-within k n w ts h = omega (arith, lines-next-length k w ts, lines-grow (n - (k + 1)) (k + 1) n w ts (omega arith))
 
--- a position's value stands inside the table
-pub value-within : (k n w : ℕ) → k < n → k * w + w ≤ n * w
-value-within k n w h = omega (arith, suc-mul k w, mul-le-mul-right {m = suc k} {n = n} w (omega arith))
-
--- the value as the code cuts it
-pub value-cut : (k w from : ℕ) (ts : List ℕ) → from ≡ k * w → take (from + w - from) (drop from ts) ≡ take w (drop (k * w) ts)
-value-cut k w from ts e =
-    let n : from + w - from ≡ w = omega arith in
-    rw (n, e)
-
 -- writing one line more
 pub lines-turn : (at k n w : ℕ) {next after : ℕ} (value ts : List ℕ) {old between now : List ℕ} → k < n → value ≡ take w (drop (k * w) ts) →
     at + length (position-lines n 0 w ts) ≤ length old → Wrote at (position-lines k 0 w ts) next old between → Wrote next (position-line k value) after between now →

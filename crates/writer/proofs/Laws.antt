@@ -5,7 +5,7 @@ use Prim.Native.Nat.{ℕ, suc, _+_, _-_, _<_, _≤_}
 use native.Mathlib.Omega.{arith}
 use native.Mathlib.Nat.{add-zero, zero-add, add-assoc}
 use native.Mathlib.Numerals.{add-one}
-use lib.ListN.{length, getD, take, drop, set, length-append, length-drop, take-append-drop, List·getD-append}
+use lib.ListN.{length, getD, take, drop, set, replicate, length-append, length-drop, length-replicate, getD-replicate, take-append-drop, List·getD-append}
 use lib.Seq.{length-take-le, take-length, take-at, drop-at, drop-drop, drop-length, paste, paste-suc, take-append-le, take-take, take-add, getD-take, set-split, append-snoc}
 use Rattle.writer.specs.Written.{written, in-front, Wrote}
 
@@ -35,7 +35,7 @@ take-written at k new old h within =
     rw append-assoc (take-append-le k (take at old) (new ++ drop (at + length new) old) (omega arith) ∙ take-take k at old h)
 
 -- a part of a string is the end of its front
-front-end : (from count : ℕ) (xs : List ℕ) → from ≤ length xs → drop from (take (from + count) xs) ≡ take count (drop from xs)
+pub front-end : (from count : ℕ) (xs : List ℕ) → from ≤ length xs → drop from (take (from + count) xs) ≡ take count (drop from xs)
 front-end from count xs h =
     rw (take-add from count xs) (drop-at (take from xs) (take count (drop from xs)) from (length-take-le from xs h))
 
@@ -99,6 +99,14 @@ put-turn at i new old out room within so-far = rw (so-far, add-one) (paste-suc o
 pub put-done : (at i : ℕ) (new old out : List ℕ) → length new ≡ i → out ≡ paste old at new i → out ≡ written at new old
 unfolding written
 put-done at i new old out done so-far = so-far ∙ rw (← done, take-length new)
+
+-- one turn, where one byte is written again and again
+pub same-turn : (at n i byte : ℕ) (old out : List ℕ) → at + n ≤ length old → i < n → out ≡ paste old at (replicate n byte) i →
+    set out (at + i) byte ≡ paste old at (replicate n byte) (i + 1)
+same-turn at n i byte old out room within so-far =
+    let long = length-replicate {A = ℕ} n byte in
+    let next = put-turn at i (replicate n byte) old out (omega arith) (omega arith) so-far in
+    rw (getD-replicate {A = ℕ} n i byte 0 within) at next
 
 -- the byte at a place before those that are written is as it was
 pub before-is-old : (at i place : ℕ) (new old out : List ℕ) → at ≤ length old → place < at → out ≡ paste old at new i → getD out place 0 ≡ getD old place 0

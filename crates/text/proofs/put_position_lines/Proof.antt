@@ -10,7 +10,8 @@ use denote.Ref.{now}
 use Rattle.writer.specs.Written.{Wrote}
 use Rattle.text.specs.Text.{position-line, position-lines}
 use Rattle.writer.proofs.Laws.{wrote-nothing}
-use Rattle.text.proofs.Laws.{lines-within, lines-turn, value-within, value-cut}
+use Rattle.text.proofs.Laws.{lines-within, lines-turn}
+use Rattle.writer.proofs.Cuts.{part-within, part-cut}
 use Rattle.text.proofs.put_position_lines.Statement.{statement}
 use Rattle.text.proofs.put_position_lines.Tie as tie
 
@@ -29,7 +30,7 @@ add-end : tie.Need-add-end Inv-loop μ-loop
 add-end c =
     let a = c .before .before .before .before .args in
     let l = c .before .loop in
-    omega (arith, l .inv .1, c .before .before .before .before .pre .0, value-within (l .position) (a .positions) (a .value-bytes) (omega arith))
+    omega (arith, l .inv .1, c .before .before .before .before .pre .0, part-within (l .position) (a .positions) (a .value-bytes) (omega arith))
 
 sub-put-position-line : tie.Need-sub-put-position-line Inv-loop μ-loop
 sub-put-position-line c = omega arith
@@ -41,14 +42,14 @@ part-put-position-line-end : tie.Need-part-put-position-line-end Inv-loop μ-loo
 part-put-position-line-end c =
     let a = c .before .before .before .before .before .args in
     let l = c .before .before .loop in
-    omega (arith, l .inv .1, c .before .before .before .before .before .pre .0, value-within (l .position) (a .positions) (a .value-bytes) (omega arith))
+    omega (arith, l .inv .1, c .before .before .before .before .before .pre .0, part-within (l .position) (a .positions) (a .value-bytes) (omega arith))
 
 put-position-line-requires : tie.Need-put-position-line-requires Inv-loop μ-loop
 put-position-line-requires c κs =
     let s = c .before .before .before .before .before .before in
     let a = s .args in
     let l = c .before .before .before .loop in
-    subst (λ (v : List ℕ). l .next + length (position-line (l .position) v) ≤ length (l .out)) (sym (value-cut (l .position) (a .value-bytes) (l .from) (now (a .table)) (l .inv .1)))
+    subst (λ (v : List ℕ). l .next + length (position-line (l .position) v) ≤ length (l .out)) (sym (part-cut (l .position) (a .value-bytes) (l .from) (now (a .table)) (l .inv .1)))
     (omega (arith, l .inv .3 .next-is, s .pre .1, lines-within (l .position) (a .positions) (a .value-bytes) (now (a .table)) (omega arith)))
 
 add-position : tie.Need-add-position Inv-loop μ-loop
@@ -66,7 +67,7 @@ loop-again c =
       omega arith,
       rw (add-one, suc-mul (l .position) (a .value-bytes), l .inv .1),
       written .kept .0 ∙ l .inv .2,
-      lines-turn (a .at) (l .position) (a .positions) (a .value-bytes) _ (now (a .table)) (omega arith) (value-cut (l .position) (a .value-bytes) (l .from) (now (a .table)) (l .inv .1)) (s .pre .1) (l .inv .3) (written .ensures),
+      lines-turn (a .at) (l .position) (a .positions) (a .value-bytes) _ (now (a .table)) (omega arith) (part-cut (l .position) (a .value-bytes) (l .from) (now (a .table)) (l .inv .1)) (s .pre .1) (l .inv .3) (written .ensures),
     )
 
 same-length : tie.Need-same-length Inv-loop μ-loop

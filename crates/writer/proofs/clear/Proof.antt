@@ -4,19 +4,16 @@ use mathlib.Core.List.{List, append-nil}
 use Prim.Native.Nat.{ℕ, _≤_, _<_, _+_, _-_}
 use native.Mathlib.Omega.{arith}
 use native.Mathlib.Nat.{zero-add}
-use lib.ListN.{length, set, replicate, length-set, length-replicate, getD-replicate, drop-of-length-le}
+use lib.ListN.{length, set, replicate, length-set, length-replicate, drop-of-length-le}
 use lib.Seq.{paste, paste-zero}
 use denote.Ref.{now}
-use Rattle.writer.proofs.Laws.{put-turn, put-done, written-front}
+use Rattle.writer.proofs.Laws.{same-turn, put-done, written-front}
 use Rattle.writer.proofs.clear.Statement.{statement}
 use Rattle.writer.proofs.clear.Tie as tie
 
 -- one turn: the next byte is zero
 turn : (n i : ℕ) (old out : List ℕ) → length old ≡ n → i < n → out ≡ paste old 0 (replicate n 0) i → set out i 0 ≡ paste old 0 (replicate n 0) (i + 1)
-turn n i old out long within so-far =
-    let zeros-long = length-replicate {A = ℕ} n 0 in
-    let next = put-turn 0 i (replicate n 0) old out (omega arith) (omega arith) so-far in
-    rw (zero-add i, getD-replicate {A = ℕ} n i 0 0 within) at next
+turn n i old out long within so-far = rw (zero-add i) at (same-turn 0 n i 0 old out (omega arith) within so-far)
 
 -- after the last turn nothing of the old is left
 whole : (n i : ℕ) (old out : List ℕ) → length old ≡ n → i ≡ n → out ≡ paste old 0 (replicate n 0) i → out ≡ replicate n 0

@@ -1,7 +1,7 @@
--- `nosingginger_c::board::put_value` meets its contract. Assumes nothing.
+-- `nosingginger_c::value::put_value` meets its contract. Assumes nothing.
 use Rattle.nosingginger_c.proofs.Pointers.{value-kept, value-written}
-use Rattle.nosingginger_c.proofs.board.put_value.Statement.{statement}
-use Rattle.nosingginger_c.proofs.board.put_value.Tie as tie
+use Rattle.nosingginger_c.proofs.value.put_value.Statement.{statement}
+use Rattle.nosingginger_c.proofs.value.put_value.Tie as tie
 
 returns : tie.Need-returns
 returns c = value-kept _ _ _ (c .if1 .taken)

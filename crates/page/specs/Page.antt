@@ -1,0 +1,52 @@
+-- THE BOARD ON A PAGE: a table as lines of text, document 02, (iv), whose sentences are quoted. Assumes nothing: these are
+-- definitions.
+use mathlib.Core.Path.{_≡_}
+use mathlib.Core.Bool.{cond}
+use mathlib.Core.List.{List, [], _∷_, _++_}
+use Prim.Native.Nat.{ℕ, _+_, _*_, _/_, _%_, _≤_}
+use lib.Dec.{ltb}
+use lib.ListN.{length, take, drop}
+use Rattle.writer.specs.InARow.{in-a-row}
+use Rattle.digits.specs.Digits.{hex, spaces, right-aligned}
+
+-- 01: "entry a of a table is the w bytes from a × w on"
+unfoldable pub value-at : (w : ℕ) → (table : List ℕ) → (a : ℕ) → List ℕ
+value-at w ts a = take w (drop (a * w) ts)
+
+-- a value's cell: "one space and 2 × w upper-case hexadecimal digits"
+unfoldable pub value-cell : (w : ℕ) → (table : List ℕ) → (a : ℕ) → List ℕ
+value-cell w ts a = 32 ∷ hex (value-at w ts a)
+
+-- each cell: a value's, and "spaces for cells past N"
+unfoldable pub page-cell : (n w : ℕ) → (table : List ℕ) → (a : ℕ) → List ℕ
+page-cell n w ts a = cond (ltb a n) (value-cell w ts a) (spaces (2 * w + 1))
+
+-- "lines of eight cells: the first position in five places, right-aligned with spaces; then for each cell ..; one line
+-- feed"
+unfoldable pub page-line : (n w : ℕ) → (table : List ℕ) → (line : ℕ) → List ℕ
+page-line n w ts l = right-aligned 5 (8 * l) ++ in-a-row 8 (8 * l) (λ a. page-cell n w ts a) ++ (10 ∷ [])
+
+-- as many lines as hold N cells
+unfoldable pub page-lines : (n : ℕ) → ℕ
+page-lines n = (n + 7) / 8
+
+-- "Given N, w and N × w bytes, write lines of eight cells"
+unfoldable pub page : (n w : ℕ) → (table : List ℕ) → List ℕ
+page n w ts = in-a-row (page-lines n) 0 (λ l. page-line n w ts l)
+
+-- "Every line is 6 + 8 × (2 × w + 1) bytes"
+unfoldable pub line-long : (w : ℕ) → ℕ
+line-long w = 6 + 8 * (2 * w + 1)
+
+unfoldable pub page-long : (n w : ℕ) → ℕ
+page-long n w = page-lines n * line-long w
+
+-- where a cell's digits begin, "by its line and column alone"
+unfoldable pub cell-place : (w a : ℕ) → ℕ
+cell-place w a = a / 8 * line-long w + 6 + a % 8 * (2 * w + 1)
+
+-- what is known of a table that nothing refuses
+pub record Pageable (n w : ℕ) (table : List ℕ) : Type 0 where
+  pub positions-few : n ≤ 65536
+  pub bytes-few : w ≤ 16
+  pub whole : length table ≡ n * w
