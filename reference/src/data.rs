@@ -6,6 +6,7 @@ use crate::deal::{deal, Dealing, Refused};
 use crate::join::{join_keys, join_shares};
 use crate::key::{check_key, held_seed, held_seed_place, key_length};
 use crate::open::{open_all, open_one};
+use crate::page::write_page;
 use crate::programs::{dealing_program, joining_program};
 use crate::sensors::sensor_position;
 use crate::width::choose_width;
@@ -26,6 +27,7 @@ pub const SENSOR_POSITION: u8 = 11;
 pub const DEALING_PROGRAM: u8 = 12;
 pub const JOINING_PROGRAM: u8 = 13;
 pub const DRAW_CARD: u8 = 14;
+pub const WRITE_PAGE: u8 = 15;
 
 /// The first eight bytes of the file.
 pub const MAGIC: &[u8; 8] = b"NGCASES1";
@@ -113,6 +115,7 @@ impl Call {
             CHOOSE_WIDTH => choose_width(a, b).map(one),
             SENSOR_POSITION => sensor_position(a).map(one),
             DRAW_CARD => draw_card(input, &self.inputs[1], a, output).map(none),
+            WRITE_PAGE => write_page(a, b, input, output).map(|written| one(written as u32)),
             other => panic!("no operation {other} on a lent output"),
         }
     }

@@ -23,6 +23,7 @@
 //! | Choose width | [`width::choose_width`] |
 //! | Sensor position | [`sensors::sensor_position`] |
 //! | Draw card | [`cards::draw_card`] |
+//! | Write page | [`page::write_page`] |
 //! | the dealing program | [`programs::dealing_program`] |
 //! | the joining program | [`programs::joining_program`] |
 //!
@@ -40,6 +41,7 @@ pub mod join;
 pub mod key;
 pub mod numbers;
 pub mod open;
+pub mod page;
 pub mod programs;
 pub mod refusal;
 pub mod sensors;

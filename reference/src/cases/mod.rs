@@ -8,6 +8,7 @@ mod cards;
 mod cells;
 mod damaged;
 mod limits;
+mod pages;
 mod plain;
 pub mod programs;
 mod starts;
@@ -58,7 +59,8 @@ pub const DAMAGED_BOARDS: [(u32, u32, u32, u32); 6] = [
 /// The generator's start, fixed for good: the data is the same each time.
 const START: u64 = 0x4E6F_7369_6E67_6731;
 
-/// All cases, in the order of the file.
+/// All cases, in the order of the file. What is added comes last, so that nothing else is drawn for
+/// the cases before it.
 pub fn all() -> Vec<Case> {
     let mut maker = Maker {
         generator: Generator::new(START),
@@ -76,6 +78,7 @@ pub fn all() -> Vec<Case> {
     starts::add(&mut maker);
     cells::add(&mut maker);
     cards::add(&mut maker);
+    pages::add(&mut maker);
     maker.cases
 }
 
