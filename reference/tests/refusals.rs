@@ -10,6 +10,7 @@ use reference::draw::{Drawn, Generator};
 use reference::join::{join_keys, join_shares};
 use reference::key::{check_key, held_seed, key_length, Header};
 use reference::open::{open_all, open_one};
+use reference::page::write_page;
 use reference::width::choose_width;
 
 const FILL: u8 = 0xC3;
@@ -137,6 +138,93 @@ fn shares() {
         assert_eq!(joined(output - 1), Err(9));
         assert_eq!(joined(output), Ok(vec![odd; output]));
     }
+}
+
+/// The bytes of a page of these numbers, whatever they are.
+fn page_bytes(positions: u32, value_width: u32) -> usize {
+    let line = 6 + 8 * (2 * value_width as usize + 1);
+    line.saturating_mul(positions.div_ceil(8) as usize)
+}
+
+/// Write page of a table of so many bytes.
+fn page(positions: u32, value_width: u32, table_bytes: usize, lent: usize) -> Result<Vec<u8>, u32> {
+    let (table, exact) = (vec![0x5A; table_bytes], page_bytes(positions, value_width));
+    on_output(lent, exact, |output| {
+        let written = write_page(positions, value_width, &table, output)?;
+        assert_eq!(written, exact);
+        Ok(())
+    })
+}
+
+/// 2, then 4, whatever stands behind the first that fits, and each alone.
+#[test]
+fn pages_of_wrong_numbers() {
+    let behind = [(0, 0), (0, 300), (8, 0), (8, 300), (51, 65_536)];
+    for positions in [0, 65_537, 65_544, 1 << 31, u32::MAX] {
+        for value_width in [1, 16, 0, 17, 256, u32::MAX] {
+            for (table_bytes, lent) in behind {
+                assert_eq!(page(positions, value_width, table_bytes, lent), Err(2));
+            }
+        }
+    }
+    for positions in [1, 8, 9, 65_536] {
+        for value_width in [0, 17, 18, 256, 257, 65_537, u32::MAX] {
+            for (table_bytes, lent) in behind {
+                assert_eq!(page(positions, value_width, table_bytes, lent), Err(4));
+            }
+        }
+    }
+    // A table of N × w bytes, and an output for the page or a byte short.
+    for (number, positions, value_width) in [(2, 65_537, 1), (4, 3, 17), (4, 9, 0)] {
+        let table_bytes = (positions * value_width) as usize;
+        let exact = page_bytes(positions, value_width);
+        for lent in [exact, exact - 1] {
+            let answer = page(positions, value_width, table_bytes, lent);
+            assert_eq!(answer, Err(number));
+        }
+    }
+    assert_eq!(page(0, 1, 0, 0), Err(2));
+    // A table of N × w bytes modulo 2^32.
+    for (number, positions, value_width) in [
+        (2, 1 << 31, 2),
+        (2, (1 << 31) + 5, 2),
+        (2, 0x5555_5556, 3),
+        (4, 2, (1 << 31) + 1),
+        (4, 8, (1 << 29) + 2),
+        (4, 65_536, 65_536),
+    ] {
+        let table_bytes = u32::wrapping_mul(positions, value_width) as usize;
+        assert_eq!(
+            page(positions, value_width, table_bytes, 9_000),
+            Err(number)
+        );
+    }
+}
+
+/// 7, then 9, and the largest N.
+#[test]
+fn pages_of_wrong_tables_and_outputs() {
+    for (positions, value_width) in [(1, 1), (7, 16), (8, 1), (9, 3), (72, 1), (4_000, 16)] {
+        let (exact, width) = ((positions * value_width) as usize, value_width as usize);
+        let room = page_bytes(positions, value_width);
+        for table_bytes in [exact - width, exact - 1, exact + 1, exact + width, 65_537] {
+            for lent in [room, room + 4, room - 1, 0] {
+                assert_eq!(page(positions, value_width, table_bytes, lent), Err(7));
+            }
+        }
+        for lent in [0, exact, room - 1] {
+            assert_eq!(page(positions, value_width, exact, lent), Err(9));
+        }
+        for lent in [room, room + 1, 2 * room] {
+            assert!(page(positions, value_width, exact, lent).is_ok());
+        }
+    }
+    // Modulo 2^16 none of these bytes are left.
+    assert_eq!(page(65_536, 1, 0, 0), Err(7));
+    assert_eq!(page(65_536, 16, 65_536, 0), Err(7));
+    assert_eq!(page(65_536, 1, 65_536, 0), Err(9));
+    assert_eq!(page(65_536, 1, 65_536, 8_192 * 30 - 1), Err(9));
+    assert!(page(65_536, 1, 65_536, 8_192 * 30).is_ok());
 }
 
 /// Deal with all faults from each number on: the first is given.
