@@ -98,6 +98,36 @@ fn pages_are_those_of_their_tables() {
     }
 }
 
+/// Document 02's nine lines of 30 bytes, the page of ten positions as it is written by hand, and opened
+/// boards: one entry that is not zeros.
+#[test]
+fn pages_of_boards_are_there() {
+    let (mut texts, mut opened) = (BTreeSet::new(), BTreeSet::new());
+    for case in pages() {
+        let (positions, width) = numbers(&case.call);
+        let entries = case.call.inputs[0].chunks(width.max(1) as usize);
+        let shown = entries.filter(|entry| entry.iter().any(|&byte| byte != 0));
+        if case.answer.refusal == 0 && positions > 1 && shown.count() == 1 {
+            opened.insert((positions, width));
+        }
+        texts.insert(case.answer.bytes);
+    }
+    assert_eq!(missing([(72, 1), (6, 1), (21, 5)], &opened), []);
+    let spaces = " ".repeat(18);
+    let ten = format!("    0 00 01 02 03 04 05 06 07\n    8 08 09{spaces}\n");
+    assert!(texts.contains(ten.as_bytes()));
+    let nine_lines = "    0 00 01 02 03 04 05 06 07\n    \
+                      8 08 09 0A 0B 0C 0D 0E 0F\n   \
+                      16 10 11 12 13 14 15 16 17\n   \
+                      24 18 19 1A 1B 1C 1D 1E 1F\n   \
+                      32 20 21 22 23 24 25 26 27\n   \
+                      40 28 29 2A 2B 2C 2D 2E 2F\n   \
+                      48 30 31 32 33 34 35 36 37\n   \
+                      56 38 39 3A 3B 3C 3D 3E 3F\n   \
+                      64 40 41 42 43 44 45 46 47\n";
+    assert!(texts.contains(nine_lines.as_bytes()));
+}
+
 /// Every w with every count of cells past N, in one line and in more; outputs that are exact, longer
 /// and a byte short for every w and for every count; all N of two lines; and the long pages.
 #[test]
@@ -232,42 +262,50 @@ fn every_choice_of_faults_is_met() {
     assert_eq!(missing(asked, &met), Vec::<[bool; 4]>::new());
 }
 
-/// 2 and 4 beside the ends of their ranges and far beyond, and with tables that would be right if N, w
-/// or N × w were taken modulo 2^8, 2^16 or 2^32; 7 with those that are right modulo 2^8 or 2^16.
+/// 2 and 4 beside the ends of their ranges and far beyond, with an output and without; the largest N and
+/// w are neither.
 #[test]
 fn numbers_out_of_range_are_refused() {
-    let (mut numbers, mut tables) = (BTreeSet::new(), BTreeSet::new());
+    let mut met = BTreeSet::new();
     for case in pages() {
-        let [positions, width, ..] = case.call.numbers;
-        let (number, table) = (case.answer.refusal, case.call.inputs[0].len() as u32);
-        numbers.insert((number, positions, width));
-        if [2, 4, 7].contains(&number) {
-            let in_range = (1..=65_536).contains(&positions);
-            let modulo = |bits: u32| {
-                let rest = |all: u32| all & (u32::MAX >> (32 - bits));
-                let product = positions.wrapping_mul(width);
-                [
-                    (!in_range, "N", rest(positions).wrapping_mul(width)),
-                    (in_range, "w", positions.wrapping_mul(rest(width))),
-                    (true, "N × w", rest(product)),
-                ]
-                .map(|(wrong, what, right)| (wrong && right == table, bits, what))
-            };
-            let right = [8, 16, 32].into_iter().flat_map(modulo);
-            let right = right.filter(|(right, ..)| *right && table > 0);
-            tables.extend(right.map(|(_, bits, what)| (number, bits, what)));
+        let (positions, width) = numbers(&case.call);
+        met.insert((case.answer.refusal, positions, width, case.call.lent > 0));
+    }
+    let most = u64::from(u32::MAX);
+    let mut asked = Vec::new();
+    for lent in [false, true] {
+        for positions in [0, 65_537, 1 << 31, most] {
+            asked.extend([0, 1, 16, 17, most].map(|width| (2, positions, width, lent)));
+        }
+        for positions in [1, 8, 65_536] {
+            asked.extend([0, 17, 256, most].map(|width| (4, positions, width, lent)));
+        }
+        asked.extend([1, 16].map(|width| (7, 65_536, width, lent)));
+    }
+    assert_eq!(missing(asked, &met), []);
+}
+
+/// Tables that are not right, and would be if N, w or N × w were taken modulo 2^8, 2^16 or 2^32.
+#[test]
+fn tables_right_modulo_are_refused() {
+    let mut met = BTreeSet::new();
+    for case in pages() {
+        let (positions, width) = numbers(&case.call);
+        let table = case.call.inputs[0].len() as u64;
+        if table == positions * width || table == 0 {
+            continue;
+        }
+        for bits in [8, 16, 32] {
+            let modulo = 1 << bits;
+            let right = [
+                ("N", positions % modulo * width),
+                ("w", positions * (width % modulo)),
+                ("N × w", positions * width % modulo),
+            ];
+            let right = right.into_iter().filter(|(_, right)| *right == table);
+            met.extend(right.map(|(what, _)| (case.answer.refusal, bits, what)));
         }
     }
-    let mut asked = Vec::new();
-    for positions in [0, 65_537, 1 << 31, u32::MAX] {
-        asked.extend([0, 1, 16, 17, u32::MAX].map(|width| (2, positions, width)));
-    }
-    for positions in [1, 65_536] {
-        asked.extend([0, 17, 256, u32::MAX].map(|width| (4, positions, width)));
-    }
-    // The largest N and w are none of their refusals.
-    asked.extend([(7, 65_536, 1), (7, 65_536, 16)]);
-    assert_eq!(missing(asked, &numbers), []);
     let asked = [
         (2, 16, "N"),
         (2, 32, "N × w"),
@@ -277,7 +315,7 @@ fn numbers_out_of_range_are_refused() {
         (7, 8, "N × w"),
         (7, 16, "N × w"),
     ];
-    assert_eq!(missing(asked, &tables), []);
+    assert_eq!(missing(asked, &met), []);
 }
 
 /// 7, with an output for the page, with one a byte short and with none, for tables that are empty, a
