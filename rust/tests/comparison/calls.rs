@@ -3,9 +3,11 @@
 use crate::lent::Lent;
 use crate::tally::{Operation, Tally};
 use nosingginger::{raw, Refusal};
-use reference::board::Board;
+use reference::board::{Board, MOST_POSITIONS, MOST_VALUE_WIDTH};
 use reference::deal::faulty_columns;
 use reference::draw::{Drawn, Generator};
+use reference::page::page_bytes;
+use std::fmt::Debug;
 
 /// The arguments of Deal, but for its output.
 #[derive(Clone)]
@@ -125,19 +127,19 @@ impl Comparison {
         library: impl Fn(&mut [u8]) -> Result<(), Refusal>,
     ) -> u32 {
         let right = self.written(asked, length, exact, second, library);
-        self.output_counted(asked, length, exact, right);
+        self.output_counted(asked, length, exact, number_of(&right));
         number_of(&right)
     }
 
-    /// The same without counting it. Gives the answer.
-    fn written<SecondRefused: Into<Refused>>(
+    /// The same without counting it, of any call that writes. Gives the answer.
+    fn written<Answer: Debug + PartialEq, SecondRefused: Into<Refused>>(
         &mut self,
         asked: &Asked,
         length: usize,
         exact: usize,
-        second: impl Fn(&mut [u8]) -> Result<(), SecondRefused>,
-        library: impl Fn(&mut [u8]) -> Result<(), Refusal>,
-    ) -> Result<(), Refused> {
+        second: impl Fn(&mut [u8]) -> Result<Answer, SecondRefused>,
+        library: impl Fn(&mut [u8]) -> Result<Answer, Refusal>,
+    ) -> Result<Answer, Refused> {
         let mut output = Lent::output(length, &mut self.generator);
         let mut right_output = output.bytes().to_vec();
         let right = second(&mut right_output).map_err(SecondRefused::into);
@@ -150,9 +152,31 @@ impl Comparison {
         right
     }
 
-    fn output_counted(&mut self, asked: &Asked, length: usize, exact: usize, right: Result<(), Refused>) {
-        self.tally.output(length, exact, number_of(&right));
-        self.tally.call(asked.operation, number_of(&right));
+    /// A call that writes to an output through the C function, which gives this number, and leaves these numbers or those that were there.
+    fn c_written<const COUNT: usize>(
+        &mut self,
+        asked: &Asked,
+        length: usize,
+        exact: usize,
+        right_number: u32,
+        right_numbers: Option<[u32; COUNT]>,
+        c_function: impl Fn(*mut u8, &mut [u32; COUNT]) -> u32,
+    ) {
+        let mut output = Lent::output(length, &mut self.generator);
+        let before = Guarded::new(&mut self.generator);
+        let mut left = before;
+        let number = c_function(output.bytes_mut().as_mut_ptr(), &mut left.numbers);
+        self.same(asked, number == right_number, "the C function gives another number");
+        let numbers = right_numbers.unwrap_or(before.numbers);
+        self.same(asked, left == Guarded { numbers, ..before }, "the C function leaves other numbers");
+        let written = if right_number == 0 { exact } else { 0 };
+        self.same(asked, output.kept_past(written), "the C function changes other bytes of the output or beside it");
+        self.inputs_kept(asked);
+    }
+
+    fn output_counted(&mut self, asked: &Asked, length: usize, exact: usize, number: u32) {
+        self.tally.output(length, exact, number);
+        self.tally.call(asked.operation, number);
     }
 
     fn inputs_kept(&self, asked: &Asked) {
@@ -194,7 +218,7 @@ impl Comparison {
         let right =
             self.written(&asked, length, exact, |keys| reference::deal::deal(&second, keys), |keys| nosingginger::deal(&library, keys));
         self.fault(&asked, &library, length, exact, right);
-        self.output_counted(&asked, length, exact, right);
+        self.output_counted(&asked, length, exact, number_of(&right));
         let Ok(board) = in_range else { return };
         match right {
             Ok(()) => self.tally.board(&board),
@@ -213,11 +237,8 @@ impl Comparison {
         let nosingginger::Board { players, positions, width, value_bytes } = board;
         let lent = |bytes: &[u8]| (bytes.as_ptr(), bytes.len() as u64);
         let [value, arrays, seeds, words] = [value, arrays, seeds, words].map(lent);
-        let mut output = Lent::output(length, &mut self.generator);
-        let keys = output.bytes_mut().as_mut_ptr();
-        let before = Guarded::new(&mut self.generator);
-        let mut left = before;
-        let number = unsafe {
+        let place = right.err().and_then(|refused| refused.place).map(<[u32; 2]>::from);
+        self.c_written(asked, length, exact, number_of(&right), place, |keys, fault| unsafe {
             raw::nsg_deal(
                 players,
                 positions,
@@ -234,16 +255,9 @@ impl Comparison {
                 words.1,
                 keys,
                 length as u64,
-                &mut left.numbers,
+                fault,
             )
-        };
-        self.same(asked, number == number_of(&right), "the C function gives another number");
-        let place = right.err().and_then(|refused| refused.place);
-        let numbers = place.map_or(before.numbers, |(grid_row, column)| [grid_row, column]);
-        self.same(asked, left == Guarded { numbers, ..before }, "the C function leaves another place");
-        let written = if right.is_ok() { exact } else { 0 };
-        self.same(asked, output.kept_past(written), "the C function changes other bytes of the output or beside it");
-        self.inputs_kept(asked);
+        });
     }
 
     pub fn check_key(&mut self, key: &[u8]) {
@@ -339,6 +353,29 @@ impl Comparison {
         let exact = first.map_or(0, |board| board.table_bytes());
         let asked = Asked { operation: Operation::JoinKeys, numbers: &[], inputs: &inputs };
         self.output(&asked, length, exact, |table| reference::join::join_keys(keys, table), |table| nosingginger::join_keys(keys, table));
+    }
+
+    /// The C function tells how many bytes are written where the answer is 0, and leaves that number alone otherwise.
+    pub fn write_page(&mut self, positions: u32, value_bytes: u32, table: &[u8], length: usize) {
+        let inputs = [self.lend(table)];
+        let table = inputs[0].bytes();
+        let in_range = (1..=MOST_POSITIONS).contains(&positions) && (1..=MOST_VALUE_WIDTH).contains(&value_bytes);
+        let exact = if in_range { page_bytes(positions as usize, value_bytes as usize) } else { 0 };
+        let asked = Asked { operation: Operation::WritePage, numbers: &[positions, value_bytes], inputs: &inputs };
+        let right = self.written(
+            &asked,
+            length,
+            exact,
+            |page| reference::page::write_page(positions, value_bytes, table, page),
+            |page| nosingginger::write_page(positions, value_bytes, table, page),
+        );
+        let number = number_of(&right);
+        let written = right.ok().map(|written| [written as u32]);
+        self.c_written(&asked, length, exact, number, written, |page, [written]| unsafe {
+            raw::nsg_write_page(positions, value_bytes, table.as_ptr(), table.len() as u64, page, length as u64, written)
+        });
+        self.output_counted(&asked, length, exact, number);
+        self.tally.page([positions, value_bytes], table.len(), length, number);
     }
 
     pub fn held_seed(&mut self, key: &[u8], grid_row: u32, column: u32) {

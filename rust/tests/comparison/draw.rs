@@ -24,6 +24,9 @@ pub trait Draw {
     /// Bytes of a card and of a deck: mostly right ones; else of a card at and beyond its limits, or so that all cards
     /// together have 2^32 bytes more than the deck; else of a deck that is too short or too long.
     fn card_and_deck(&mut self, board: &Board, most_deck: usize) -> (u32, usize);
+    /// Positions and value bytes of a page, and bytes of its table: mostly right ones; else numbers at and beyond their
+    /// limits, or so that all entries together have 2^32 bytes more than the table; else a table that is too short or too long.
+    fn page_and_table(&mut self) -> (u32, u32, usize);
     /// A board whose openings cost at most `most_cost`.
     fn board(&mut self, most_cost: usize) -> Board;
 }
@@ -103,6 +106,36 @@ impl Draw for Generator {
                 (wraps, (wraps as usize * positions) & u32::MAX as usize)
             }
             _ => (card_bytes, deck),
+        }
+    }
+
+    fn page_and_table(&mut self) -> (u32, u32, usize) {
+        let most = if self.one_in(500) { MOST_POSITIONS } else { self.pick(&[8, 8, 17, 17, 80, 300, 1_100]) };
+        let (positions, value_bytes) = (self.within(1, most), self.within(1, MOST_VALUE_WIDTH));
+        let (table, entry) = ((positions * value_bytes) as usize, value_bytes as usize);
+        let wraps = |factor: u32| (1u64 << 32).div_ceil(u64::from(factor)) as u32;
+        match self.below(32) {
+            0 => (positions, value_bytes, table - 1),
+            1 => (positions, value_bytes, table + 1),
+            2 => (positions, value_bytes, table - entry),
+            3 => (positions, value_bytes, table + entry),
+            4 => (positions, value_bytes, self.below(2 * table)),
+            5 => (self.pick(&[0, MOST_POSITIONS + 1]), value_bytes, self.pick(&[0, table])),
+            6 => (positions, self.pick(&[0, MOST_VALUE_WIDTH + 1]), self.pick(&[0, table])),
+            7 => (positions, MOST_VALUE_WIDTH + 1, positions as usize * (MOST_VALUE_WIDTH as usize + 1)),
+            8 => (self.near(1, MOST_POSITIONS), value_bytes, table),
+            9 => (positions, self.near(1, MOST_VALUE_WIDTH), table),
+            10 => (self.near(1, MOST_POSITIONS), self.near(1, MOST_VALUE_WIDTH), self.pick(&[0, table])),
+            // With a factor of one there are not so many bytes.
+            11 if value_bytes > 1 => {
+                let positions = wraps(value_bytes) + self.pick(&[0, positions]);
+                (positions, value_bytes, positions.wrapping_mul(value_bytes) as usize)
+            }
+            12 if positions > 1 => {
+                let value_bytes = wraps(positions) + self.pick(&[0, value_bytes]);
+                (positions, value_bytes, positions.wrapping_mul(value_bytes) as usize)
+            }
+            _ => (positions, value_bytes, table),
         }
     }
 

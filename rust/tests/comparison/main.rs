@@ -42,6 +42,7 @@ fn main() {
     for board in LIMIT_BOARDS {
         comparison.limit_board(board);
     }
+    comparison.limit_pages();
     let mut keys = Vec::new();
     while comparison.tally.calls() < least {
         keys = comparison.drawn_board(&keys);

@@ -10,6 +10,7 @@ use reference::chacha::MOST_ROW_BYTES;
 use reference::draw::Drawn;
 use reference::key::key_bytes;
 use reference::open::open_one;
+use reference::page::page_bytes;
 
 /// Boards (p, N, μ, w) at the limits, each visited once: document 01's own, the least and the largest numbers, 256 grid rows, a short last
 /// grid row, header numbers in one, two and three groups; last values of all widths that do not divide a block, in rows
@@ -59,7 +60,7 @@ const LARGE: usize = 200_000;
 const MOST_DRAWN_DECK: usize = 1 << 14;
 
 /// How often an operation is drawn.
-const WEIGHTS: [(Operation, usize); 12] = [
+const WEIGHTS: [(Operation, usize); 13] = [
     (Operation::KeyLength, 6),
     (Operation::Deal, 15),
     (Operation::CheckKey, 16),
@@ -68,6 +69,7 @@ const WEIGHTS: [(Operation, usize); 12] = [
     (Operation::DrawCard, 16),
     (Operation::JoinShares, 8),
     (Operation::JoinKeys, 18),
+    (Operation::WritePage, 14),
     (Operation::HeldSeed, 8),
     (Operation::Expand, 5),
     (Operation::ChooseWidth, 4),
@@ -94,6 +96,23 @@ impl Comparison {
         }
         for _ in 0..if cost(&board) <= MEDIUM { 40 } else { 8 } {
             self.drawn_call(&round);
+        }
+    }
+
+    /// The least pages and the largest, and numbers just outside of their limits where all else is right.
+    pub fn limit_pages(&mut self) {
+        for (positions, value_bytes) in [
+            (1, 1),
+            (1, MOST_VALUE_WIDTH),
+            (MOST_POSITIONS, 1),
+            (MOST_POSITIONS, MOST_VALUE_WIDTH),
+            (0, 1),
+            (MOST_POSITIONS + 1, 1),
+            (8, 0),
+            (8, MOST_VALUE_WIDTH + 1),
+        ] {
+            let table = self.generator.bytes((positions * value_bytes) as usize);
+            self.write_page(positions, value_bytes, &table, page_bytes(positions as usize, value_bytes as usize));
         }
     }
 
@@ -161,6 +180,19 @@ impl Comparison {
         self.join_shares(players, value_width, &shares, board.value_width);
         self.join_keys(&round.keys.concat(), board.table_bytes());
         self.join_keys(&round.keys.concat(), board.table_bytes() - 1);
+        self.right_pages(&round.drawn);
+    }
+
+    /// The page of the joined table, an output one short, and tables a byte short and a byte long.
+    fn right_pages(&mut self, drawn: &Drawn) {
+        let (positions, value_bytes) = (drawn.board.positions as u32, drawn.board.value_width as u32);
+        let mut table = drawn.joined_table();
+        let exact = page_bytes(drawn.board.positions, drawn.board.value_width);
+        self.write_page(positions, value_bytes, &table, exact);
+        self.write_page(positions, value_bytes, &table, exact - 1);
+        self.write_page(positions, value_bytes, &table[1..], exact);
+        table.push(0);
+        self.write_page(positions, value_bytes, &table, exact);
     }
 
     /// A card with one key, from a right deck, from one a byte short and one a byte long, and with an output one short; and
@@ -210,6 +242,7 @@ impl Comparison {
                 let length = self.generator.output_length(drawn.board.table_bytes());
                 self.join_keys(&keys, length);
             }
+            Operation::WritePage => self.drawn_write_page(),
             Operation::HeldSeed => self.drawn_held_seed(round),
             Operation::Expand => self.drawn_expand(),
             Operation::ChooseWidth => self.drawn_choose_width(),
@@ -275,6 +308,17 @@ impl Comparison {
         let shares = self.generator.bytes(length);
         let output = self.generator.output_length(value_bytes.min(1_000) as usize);
         self.join_shares(players, value_bytes, &shares, output);
+    }
+
+    fn drawn_write_page(&mut self) {
+        let (positions, value_bytes, table_bytes) = self.generator.page_and_table();
+        let table = self.generator.bytes(table_bytes);
+        // Outputs of refused tables and numbers are kept short: that of a large page takes long.
+        let right_table = table_bytes as u64 == u64::from(positions) * u64::from(value_bytes);
+        let numbers = if right_table { [positions, value_bytes] } else { [positions.min(80), value_bytes.min(MOST_VALUE_WIDTH)] };
+        let [count, entry] = numbers.map(|number| number as usize);
+        let length = self.generator.output_length(page_bytes(count, entry));
+        self.write_page(positions, value_bytes, &table, length);
     }
 
     fn drawn_expand(&mut self) {

@@ -4,6 +4,7 @@ use crate::draw::in_two_blocks;
 use nosingginger::{MOST_DECK_BYTES, MOST_SHARE_BYTES};
 use reference::board::{Board, FEWEST_PLAYERS, MOST_GRID_ROWS, MOST_GRID_WIDTH, MOST_PLAYERS, MOST_POSITIONS, MOST_VALUE_WIDTH};
 use reference::chacha::{BLOCK_BYTES, MOST_ROW_BYTES};
+use reference::page::{line_bytes, page_bytes, LINE_CELLS};
 
 #[derive(Clone, Copy, Debug, PartialEq, Eq)]
 pub enum Operation {
@@ -15,6 +16,7 @@ pub enum Operation {
     DrawCard,
     JoinShares,
     JoinKeys,
+    WritePage,
     HeldSeed,
     Expand,
     ChooseWidth,
@@ -22,7 +24,7 @@ pub enum Operation {
 }
 
 /// The operations in their order, with the numbers that each can give.
-const OPERATIONS: [(Operation, &str, &[usize]); 12] = [
+const OPERATIONS: [(Operation, &str, &[usize]); 13] = [
     (Operation::KeyLength, "key length", &[1, 2, 3, 4, 5]),
     (Operation::Deal, "deal", &[1, 2, 3, 4, 5, 6, 7, 9, 18, 19, 20]),
     (Operation::CheckKey, "check key", &[1, 2, 3, 4, 5, 10, 11, 12, 13]),
@@ -31,6 +33,7 @@ const OPERATIONS: [(Operation, &str, &[usize]); 12] = [
     (Operation::DrawCard, "draw card", &[1, 2, 3, 4, 5, 9, 10, 11, 12, 13, 21, 22]),
     (Operation::JoinShares, "join shares", &[1, 4, 7, 9]),
     (Operation::JoinKeys, "join keys", &[1, 2, 3, 4, 5, 9, 10, 11, 12, 13, 15]),
+    (Operation::WritePage, "write page", &[2, 4, 7, 9]),
     (Operation::HeldSeed, "held seed", &[]),
     (Operation::Expand, "expand", &[7, 16]),
     (Operation::ChooseWidth, "choose width", &[1, 2]),
@@ -38,7 +41,7 @@ const OPERATIONS: [(Operation, &str, &[usize]); 12] = [
 ];
 
 /// Limits that calls must have met, those of boards in accepted dealings.
-const LIMITS: [&str; 37] = [
+const LIMITS: [&str; 47] = [
     "2 players",
     "3 players",
     "4 players",
@@ -76,6 +79,16 @@ const LIMITS: [&str; 37] = [
     "the largest deck",
     "shares of 256 bytes",
     "shares of 257 bytes",
+    "page of 1 position",
+    "page of 65,536 positions",
+    "the largest page",
+    "page of 0 positions, all else right",
+    "page of 65,537 positions, all else right",
+    "page of values of 0 bytes, all else right",
+    "page of values of 17 bytes, all else right",
+    "table one byte short",
+    "table one byte long",
+    "table of all entries' bytes modulo 2^32",
 ];
 
 /// Accepted, and every refusal. 8 is given no more.
@@ -98,6 +111,9 @@ const PLACES: [&str; 8] = [
     "arrays with more faults",
 ];
 
+/// A line's first position has at most so many digits.
+const MOST_PAGE_DIGITS: usize = 5;
+
 pub struct Tally {
     numbers: [[u64; NUMBERS]; OPERATIONS.len()],
     /// Of Held seed's calls, those that no seed answered.
@@ -108,6 +124,10 @@ pub struct Tally {
     in_two_blocks: [u64; MOST_VALUE_WIDTH as usize + 1],
     /// Cards that all players drew and joined, by the players: those of an even value, and those of an odd one.
     whole_draws: [[u64; 2]; MOST_PLAYERS as usize + 1],
+    /// Pages, by the bytes of a value and the cells past N.
+    pages: [[u64; LINE_CELLS]; MOST_VALUE_WIDTH as usize + 1],
+    /// Pages, by the digits of the last line's first position.
+    page_digits: [u64; MOST_PAGE_DIGITS + 1],
 }
 
 impl Operation {
@@ -125,6 +145,8 @@ impl Tally {
             places: [[0; PLACES.len()]; PLACED],
             in_two_blocks: [0; MOST_VALUE_WIDTH as usize + 1],
             whole_draws: [[0; 2]; MOST_PLAYERS as usize + 1],
+            pages: [[0; LINE_CELLS]; MOST_VALUE_WIDTH as usize + 1],
+            page_digits: [0; MOST_PAGE_DIGITS + 1],
         }
     }
 
@@ -226,6 +248,30 @@ impl Tally {
         self.limit("shares of 257 bytes", number == 4 && value_bytes == MOST_SHARE_BYTES + 1);
     }
 
+    /// The N and w of a page, the bytes of its table and of its output, and the number that was given.
+    pub fn page(&mut self, [positions, value_bytes]: [u32; 2], table: usize, output: usize, number: u32) {
+        let (count, entry, table) = (positions as usize, value_bytes as usize, table as u64);
+        let all = u64::from(positions) * u64::from(value_bytes);
+        if number == 0 {
+            let last_line = (count - 1) / LINE_CELLS * LINE_CELLS;
+            self.pages[entry][count.next_multiple_of(LINE_CELLS) - count] += 1;
+            self.page_digits[last_line.to_string().len()] += 1;
+        }
+        // Room for the page of these numbers, in range or not: the product may have more than 64 bits.
+        let room = output as u128 >= count.div_ceil(LINE_CELLS) as u128 * line_bytes(entry) as u128;
+        let alone = |refusal: u32| number == refusal && table == all && room;
+        self.limit("page of 1 position", number == 0 && positions == 1);
+        self.limit("page of 65,536 positions", number == 0 && positions == MOST_POSITIONS);
+        self.limit("the largest page", number == 0 && page_bytes(count, entry) == 2_211_840);
+        self.limit("page of 0 positions, all else right", alone(2) && positions == 0);
+        self.limit("page of 65,537 positions, all else right", alone(2) && positions == MOST_POSITIONS + 1);
+        self.limit("page of values of 0 bytes, all else right", alone(4) && value_bytes == 0);
+        self.limit("page of values of 17 bytes, all else right", alone(4) && value_bytes == MOST_VALUE_WIDTH + 1);
+        self.limit("table one byte short", number == 7 && table + 1 == all);
+        self.limit("table one byte long", number == 7 && table == all + 1);
+        self.limit("table of all entries' bytes modulo 2^32", [2, 4].contains(&number) && table + (1 << 32) == all);
+    }
+
     pub fn input(&mut self, length: usize) {
         self.limit("empty input", length == 0);
     }
@@ -275,6 +321,24 @@ impl Tally {
         let met = |(players, [even, odd]): (usize, [u64; 2])| format!("{players}: {odd} and {even}");
         let draws: Vec<String> = self.draws_of().map(met).collect();
         println!("cards drawn by all players, of odd values and of even ones, by players: {}", draws.join(", "));
+        self.print_pages();
+    }
+
+    fn print_pages(&self) {
+        let met = |(width, pages): (usize, [u64; LINE_CELLS])| format!("{width}: {}", pages.iter().sum::<u64>());
+        let pages: Vec<String> = self.pages_of().map(met).collect();
+        println!("pages, by value bytes: {}", pages.join(", "));
+        let met = |past: usize| format!("{past}: {}", self.pages.iter().map(|pages| pages[past]).sum::<u64>());
+        let pages: Vec<String> = (0..LINE_CELLS).map(met).collect();
+        println!("pages, by cells past the last position: {}", pages.join(", "));
+        let met = |digits: usize| format!("{digits}: {}", self.page_digits[digits]);
+        let pages: Vec<String> = (1..=MOST_PAGE_DIGITS).map(met).collect();
+        println!("pages, by digits of the last line's first position: {}", pages.join(", "));
+    }
+
+    /// Each number of bytes of a value, with its pages by the cells past N.
+    fn pages_of(&self) -> impl Iterator<Item = (usize, [u64; LINE_CELLS])> + '_ {
+        (1..).zip(self.pages[1..].iter().copied())
     }
 
     /// Each number of players, with its whole draws of even and of odd values.
@@ -318,6 +382,12 @@ impl Tally {
         }
         for (players, draws) in self.draws_of().filter(|(_, draws)| draws.contains(&0)) {
             faults.push(format!("never met: a card of an even or an odd value drawn by {players} players: {draws:?}"));
+        }
+        for (width, pages) in self.pages_of().filter(|(_, pages)| pages.contains(&0)) {
+            faults.push(format!("never met: pages of values of {width} bytes with each number of cells past N: {pages:?}"));
+        }
+        for digits in (1..=MOST_PAGE_DIGITS).filter(|&digits| self.page_digits[digits] == 0) {
+            faults.push(format!("never met: a page whose last line begins with {digits} digits"));
         }
         faults
     }
