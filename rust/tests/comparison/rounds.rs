@@ -313,10 +313,11 @@ impl Comparison {
     fn drawn_write_page(&mut self) {
         let (positions, value_bytes, table_bytes) = self.generator.page_and_table();
         let table = self.generator.bytes(table_bytes);
-        // Outputs of refused tables and numbers are kept short: that of a large page takes long.
+        // An output for the page where the table is right, if any is so long; else a short one does.
         let right_table = table_bytes as u64 == u64::from(positions) * u64::from(value_bytes);
-        let numbers = if right_table { [positions, value_bytes] } else { [positions.min(80), value_bytes.min(MOST_VALUE_WIDTH)] };
-        let [count, entry] = numbers.map(|number| number as usize);
+        let most_positions = if right_table { MOST_POSITIONS } else { 80 };
+        let count = positions.min(most_positions) as usize;
+        let entry = value_bytes.min(MOST_VALUE_WIDTH + 1) as usize;
         let length = self.generator.output_length(page_bytes(count, entry));
         self.write_page(positions, value_bytes, &table, length);
     }
