@@ -15,6 +15,7 @@
      share         what one player's key says of one position: value_bytes bytes, noise by themselves.
      table         the shares of all positions of one player, or all of them joined: entry a is the value_bytes bytes from a * value_bytes on.
      deck          a card for each position, card_bytes bytes each, 1 to 256: card a is those from a * card_bytes on.
+     page          a table as text, in lines of eight cells: nsg_write_page says how.
 
    What holds of every call
      - It returns NSG_ACCEPTED, or the first refusal number that fits, in the order that is given at the function. (nsg_held_seed alone has
@@ -31,9 +32,10 @@
        outputs of calls that run at once must be apart.
      - A call needs stack: see NSG_STACK_BYTES.
 
-   How long a call takes is proved nowhere. Measured is which branches and which addresses in memory depend on what a call is lent: in the
-   archive for x86-64, under valgrind's memcheck and on boards of 2 to 6 players with rows of 4 to 4,096 bytes, and with rows of 4 to 256
-   bytes where cards of 1 to 256 bytes are drawn, none depends on the value, a seed, a word, a share or a card, in any call. They do depend
+   How long a call takes is proved nowhere. Measured is which branches and which addresses in memory depend on what a
+   call is lent: in the archive for x86-64, under valgrind's memcheck and on boards of 2 to 6 players with rows of 4 to
+   4,096 bytes, with rows of 4 to 256 bytes where cards of 1 to 256 bytes are drawn, and on pages of 1 to 520 positions,
+   none depends on the value, a seed, a word, a share, a card or an entry of a page's table, in any call. They do depend
      - in nsg_deal on the arrays, which say whose the seeds are, and on the point: on its grid row, and on its cell by the address at which
        the value is put. Who can watch branches or addresses while a board deals can learn where the piece is. The same holds of a deal
        refused with 18, 19 or 20. Its number and `fault` can tell the point's grid row by themselves: they are for the board's maker, not
@@ -56,7 +58,7 @@ extern "C" {
 #endif
 
 /* The version, which `pkg-config --modversion nosingginger` tells too. */
-#define NSG_VERSION "0.4.0"
+#define NSG_VERSION "0.5.0"
 
 /* THE BOUNDS. */
 #define NSG_LEAST_PLAYERS 2u
@@ -70,6 +72,7 @@ extern "C" {
 #define NSG_SEED_BYTES 32u
 #define NSG_MOST_EXPANDED_BYTES 4096u   /* the longest row there is, and how far nsg_expand goes into one */
 #define NSG_SENSORS 72u                 /* of the spring board, nine lines of eight squares */
+#define NSG_PAGE_CELLS 8u               /* of each line of a page */
 #define NSG_HEADER_NUMBERS 5u           /* what nsg_check_key gives */
 #define NSG_FAULT_NUMBERS 2u            /* what nsg_deal gives of a bad column */
 
@@ -86,13 +89,17 @@ extern "C" {
 #define NSG_WORDS_BYTES(players, width, value_bytes) ((NSG_COLUMNS(players) - 1u) * (width) * (value_bytes))
 #define NSG_TABLE_BYTES(positions, value_bytes) ((positions) * (value_bytes))
 #define NSG_DECK_BYTES(positions, card_bytes) ((positions) * (card_bytes))
+#define NSG_PAGE_LINE_BYTES(value_bytes) (6u + NSG_PAGE_CELLS * (2u * (value_bytes) + 1u))
+#define NSG_PAGE_BYTES(positions, value_bytes) \
+    (((positions) + NSG_PAGE_CELLS - 1u) / NSG_PAGE_CELLS * NSG_PAGE_LINE_BYTES(value_bytes))
 
 /* A key's length is what nsg_key_length gives. These are the largest there are: one key, all players' keys, a table, a
-   deck. */
+   deck, a page. */
 #define NSG_MOST_KEY_BYTES 263176u
 #define NSG_MOST_KEYS_BYTES 1579056u
 #define NSG_MOST_TABLE_BYTES 1048576u
 #define NSG_MOST_DECK_BYTES 16777216u
+#define NSG_MOST_PAGE_BYTES 2211840u
 
 /* WHAT A CALL RETURNS, and what each number means. There is no 8: 18, 19 and 20 are in its place. A program that shows numbers to people has
    their names and words from the header beside this one, nosingginger_words.h. */
@@ -216,6 +223,27 @@ uint32_t nsg_join_shares(uint32_t players, uint32_t value_bytes, const uint8_t *
    then for each key in turn, the first too: its 10, 1, 2, 3, 4, 5, 11, then 15, then 13; last 9 output under positions * value_bytes.
    Writes positions * value_bytes bytes. Keys of one board that come from different deals are not refused: they join to noise. */
 uint32_t nsg_join_keys(const uint8_t *keys, uint64_t keys_length, uint8_t *out, uint64_t out_length);
+
+/* ---- THE PAGE: an opened table, for people to read. ---- */
+
+/* WRITE PAGE: a table as lines of text, to be printed and pinned up. A line has eight positions, NSG_PAGE_CELLS:
+     - the first of them in decimal, right-aligned with spaces in five places;
+     - a cell for each: one space, then the entry in 2 * value_bytes hexadecimal digits, upper-case. Byte 0 comes first,
+       and of a byte the high digit;
+     - in the last line, for each cell past the last position, as many spaces;
+     - one line feed.
+   Ten positions of one byte, the second line with 18 spaces behind the 09:
+         0 00 01 02 03 04 05 06 07
+         8 08 09
+   Every line is NSG_PAGE_LINE_BYTES(value_bytes) bytes long, so a cell is found by its line and column alone: the
+   digits of position a begin at byte a / 8 * NSG_PAGE_LINE_BYTES(value_bytes) + 6 + a % 8 * (2 * value_bytes + 1). All
+   bytes are ASCII, and no zero byte ends the page. It tells the whole table: a player's own is noise, the joined one
+   shows where the piece is.
+     table   NSG_TABLE_BYTES(positions, value_bytes) bytes, as nsg_join_keys or nsg_open_all writes them.
+   Refusals, in this order: 2; 4; 7 table of another length; 9 output under NSG_PAGE_BYTES(positions, value_bytes).
+   Writes that many bytes, and their number to *written; at most NSG_MOST_PAGE_BYTES. */
+uint32_t nsg_write_page(uint32_t positions, uint32_t value_bytes, const uint8_t *table, uint64_t table_length,
+                        uint8_t *out, uint64_t out_length, uint32_t *written);
 
 /* ---- SEEDS: the rows that they stand for. ---- */
 
