@@ -49,6 +49,18 @@ struct lent lend_fault(void)
     return lend_filled(0xD8, NSG_FAULT_NUMBERS * sizeof(uint32_t));
 }
 
+struct lent lend_number(void)
+{
+    return lend_filled(0xD8, sizeof(uint32_t));
+}
+
+uint32_t told(const struct lent *number)
+{
+    uint32_t value;
+    memcpy(&value, number->bytes, sizeof value);
+    return value;
+}
+
 int tells(const struct lent *fault, uint32_t grid_row, uint32_t column)
 {
     const uint32_t place[NSG_FAULT_NUMBERS] = {grid_row, column};
@@ -144,6 +156,13 @@ uint32_t deal(const struct draw *draw, struct lent *keys, struct lent *fault)
 uint32_t draw_card(const struct lent *key, const struct lent *deck, uint32_t card_bytes, struct lent *out)
 {
     return nsg_draw_card(key->bytes, key->length, deck->bytes, deck->length, card_bytes, out->bytes, out->length);
+}
+
+uint32_t write_page(uint32_t positions, uint32_t value_bytes, const struct lent *table, struct lent *out,
+                    struct lent *written)
+{
+    return nsg_write_page(positions, value_bytes, table->bytes, table->length, out->bytes, out->length,
+                          (uint32_t *)(void *)written->bytes);
 }
 
 void give_back_draw(struct draw *draw)

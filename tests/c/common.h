@@ -19,6 +19,8 @@ struct lent lend(const uint8_t *bytes, uint64_t length);
 struct lent lend_filled(uint8_t fill, uint64_t length);
 struct lent lend_drawn(uint64_t length);           /* bytes of the sequence below */
 struct lent lend_fault(void);                      /* room for what nsg_deal tells of a bad column, filled */
+struct lent lend_number(void);                     /* room for a number that a call tells, filled */
+uint32_t told(const struct lent *number);          /* what was told there */
 int untouched(const struct lent *lent);            /* all bytes are as they were lent */
 int untouched_past(const struct lent *lent, uint64_t written);   /* those behind the first `written` are */
 void give_back(struct lent *lent);
@@ -42,6 +44,8 @@ uint32_t deal(const struct draw *draw, struct lent *keys, struct lent *fault);
 int tells(const struct lent *fault, uint32_t grid_row, uint32_t column);   /* whether nsg_deal told this place */
 void give_back_draw(struct draw *draw);
 uint32_t draw_card(const struct lent *key, const struct lent *deck, uint32_t card_bytes, struct lent *out);
+uint32_t write_page(uint32_t positions, uint32_t value_bytes, const struct lent *table, struct lent *out,
+                    struct lent *written);
 uint32_t key_length(struct board board);           /* of a board that is accepted */
 struct lent dealt_keys(const struct draw *draw);   /* the keys of a dealing that is accepted, and tells no place */
 

@@ -1,5 +1,6 @@
 /* Accepted calls: document 01's printed deal and RFC 8439's key stream byte by byte; dealings of many boards, dealt,
-   checked, opened and joined; shares of every width joined; cards drawn from decks of every kind. */
+   checked, opened and joined; shares of every width joined; cards drawn from decks of every kind; pages beside what
+   sprintf writes. */
 #include "common.h"
 #include <stdio.h>
 #include <string.h>
@@ -334,6 +335,101 @@ static void test_cards(void)
     printf("cards: %u decks for each number of players\n", 3 * count);
 }
 
+/* A table's page as sprintf writes it. */
+static struct lent printed_page(uint32_t positions, uint32_t width, const uint8_t *entries)
+{
+    struct lent page = lend_filled(FILL, NSG_PAGE_BYTES(positions, width) + 1);   /* sprintf ends with a zero byte */
+    char *at = (char *)page.bytes;
+    for (uint32_t line = 0; line < positions; line += 8) {
+        at += sprintf(at, "%5u", (unsigned)line);
+        for (uint32_t position = line; position < line + 8; position++) {
+            at += sprintf(at, "%*s", position < positions ? 1 : 2 * (int)width + 1, "");
+            for (uint32_t i = 0; position < positions && i < width; i++)
+                at += sprintf(at, "%02X", (unsigned)*entries++);
+        }
+        at += sprintf(at, "\n");
+    }
+    page.length--;
+    CHECK((uint8_t *)at == page.bytes + page.length);
+    return page;
+}
+
+static unsigned digit_at(const uint8_t *at)
+{
+    return *at <= '9' ? *at - (unsigned)'0' : *at - (unsigned)'A' + 10;
+}
+
+/* Reads the entry of a position off a page, by its line and column alone. */
+static void read_entry(const uint8_t *page, uint32_t position, uint32_t width, uint8_t *entry)
+{
+    const uint8_t *at = page + position / 8 * NSG_PAGE_LINE_BYTES(width) + 6 + position % 8 * (2 * width + 1);
+    for (uint32_t i = 0; i < width; i++, at += 2)
+        entry[i] = (uint8_t)(16 * digit_at(at) + digit_at(at + 1));
+}
+
+/* One table's page: the bytes that sprintf writes and no byte more, their number, and every entry read back. */
+static void test_page_of(uint32_t positions, uint32_t width, const struct lent *table, uint32_t spare)
+{
+    struct lent wanted = printed_page(positions, width, table->bytes), read = lend_filled(0, table->length);
+    struct lent out = lend_filled(FILL, wanted.length + spare), written = lend_number();
+    CHECK(write_page(positions, width, table, &out, &written) == NSG_ACCEPTED);
+    CHECK(told(&written) == wanted.length);
+    CHECK(memcmp(out.bytes, wanted.bytes, (size_t)wanted.length) == 0);
+    CHECK(untouched(table) && untouched_past(&out, wanted.length));
+    for (uint32_t position = 0; position < positions; position++)
+        read_entry(out.bytes, position, width, read.bytes + position * width);
+    CHECK(memcmp(read.bytes, table->bytes, (size_t)table->length) == 0);
+    give_back(&written);
+    give_back(&out);
+    give_back(&read);
+    give_back(&wanted);
+}
+
+static void test_page(uint32_t positions, uint32_t width)
+{
+    struct lent table = lend_drawn(NSG_TABLE_BYTES(positions, width));
+    test_page_of(positions, width, &table, positions % 3);
+    give_back(&table);
+}
+
+/* Ten squares, two of them in the last line, letter by letter. */
+static void test_printed_page(void)
+{
+    static const char page[] = "    0 00 01 02 03 04 05 06 07\n    8 08 09                  \n";
+    static const uint8_t counted[10] = {0, 1, 2, 3, 4, 5, 6, 7, 8, 9};
+    struct lent table = lend(counted, 10), out = lend_filled(FILL, 60), written = lend_number();
+    CHECK(write_page(10, 1, &table, &out, &written) == NSG_ACCEPTED);
+    CHECK(told(&written) == 60 && memcmp(out.bytes, page, 60) == 0);
+    give_back(&written);
+    give_back(&out);
+    give_back(&table);
+}
+
+/* Every width with last lines of every length; every byte; first positions of one to five places; the largest page. */
+static void test_pages(void)
+{
+    static const uint32_t others[] = {96, 97, 104, 105, 999, 1000, 1001, 9992, 9993, 10000, 65527, 65528, 65529, 65535};
+    struct lent bytes = lend_filled(0, 256);
+    CHECK(NSG_PAGE_LINE_BYTES(1) == 30 && NSG_PAGE_BYTES(NSG_SENSORS, 1) == 9 * 30);
+    CHECK(NSG_MOST_PAGE_BYTES == NSG_PAGE_BYTES(NSG_MOST_POSITIONS, NSG_MOST_VALUE_BYTES));
+    test_printed_page();
+    for (unsigned i = 0; i < 256; i++)
+        bytes.bytes[i] = bytes.before[i] = (uint8_t)i;
+    for (uint32_t width = 1; width <= NSG_MOST_VALUE_BYTES; width++) {
+        for (uint32_t positions = 1; positions <= 33; positions++)
+            test_page(positions, width);
+        test_page(NSG_SENSORS, width);
+        if (256 % width == 0)
+            test_page_of(256 / width, width, &bytes, 0);
+    }
+    for (unsigned i = 0; i < sizeof others / sizeof others[0]; i++)
+        test_page(others[i], 1 + i % 3);
+    test_page(NSG_MOST_POSITIONS, 1);
+    test_page(NSG_MOST_POSITIONS, NSG_MOST_VALUE_BYTES);
+    give_back(&bytes);
+    printf("pages: of every width, up to %u bytes\n", NSG_MOST_PAGE_BYTES);
+}
+
 void test_operations(void)
 {
     static const struct board boards[] = {{2, 6, 4, 1}, {2, 1, 1, 1}, {2, 1, 256, 16}, {2, 64, 12, 1}, {3, 100, 17, 16}, {3, 130, 128, 5},
@@ -351,5 +447,6 @@ void test_operations(void)
     }
     test_join_shares();
     test_cards();
+    test_pages();
     printf("operations: %u boards\n", (unsigned)(sizeof boards / sizeof boards[0]));
 }

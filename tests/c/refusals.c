@@ -4,15 +4,16 @@
 #include <stdio.h>
 #include <string.h>
 
-enum function { KEY_LENGTH, DEAL, CHECK_KEY, OPEN_ONE, OPEN_ALL, DRAW_CARD, JOIN_SHARES, JOIN_KEYS, EXPAND,
+enum function { KEY_LENGTH, DEAL, CHECK_KEY, OPEN_ONE, OPEN_ALL, DRAW_CARD, JOIN_SHARES, JOIN_KEYS, WRITE_PAGE, EXPAND,
                 CHOOSE_WIDTH, SENSOR_POSITION, FUNCTIONS };
 enum { NUMBERS = 23, FILL = 0x5C };
 
 static const char *const names[FUNCTIONS] = {"nsg_key_length", "nsg_deal", "nsg_check_key", "nsg_open_one", "nsg_open_all",
-                                             "nsg_draw_card", "nsg_join_shares", "nsg_join_keys", "nsg_expand",
-                                             "nsg_choose_width", "nsg_sensor_position"};
+                                             "nsg_draw_card", "nsg_join_shares", "nsg_join_keys", "nsg_write_page",
+                                             "nsg_expand", "nsg_choose_width", "nsg_sensor_position"};
 
-/* Document 01, request (i) for Deal and (iii) for Draw card: which numbers each operation gives. A row ends with 0. */
+/* Document 01, request (i) for Deal, (iii) for Draw card and (iv) for Write page: which numbers each operation gives. A
+   row ends with 0. */
 static const uint8_t given[FUNCTIONS][NUMBERS] = {
     {1, 2, 3, 4, 5},
     {1, 2, 3, 4, 5, 6, 7, 9, 18, 19, 20},
@@ -22,6 +23,7 @@ static const uint8_t given[FUNCTIONS][NUMBERS] = {
     {1, 2, 3, 4, 5, 9, 10, 11, 12, 13, 21, 22},
     {1, 4, 7, 9},
     {1, 2, 3, 4, 5, 9, 10, 11, 12, 13, 15},
+    {2, 4, 7, 9},
     {7, 16},
     {1, 2},
     {17},
@@ -482,6 +484,58 @@ static void refuse_shares(uint32_t players, uint32_t value_bytes, uint64_t lengt
     give_back(&out);
 }
 
+static void refuse_page(uint32_t positions, uint32_t value_bytes, uint64_t length, uint64_t room, uint32_t wanted)
+{
+    struct lent table = lend_filled(0x33, length), out = lend_filled(FILL, room), written = lend_number();
+    expect(WRITE_PAGE, write_page(positions, value_bytes, &table, &out, &written), wanted);
+    CHECK(untouched(&table) && untouched(&out) && untouched(&written));
+    give_back(&written);
+    give_back(&out);
+    give_back(&table);
+}
+
+/* Every choice of things that are wrong, of a right page with this many positions and bytes: the first of them is told.
+   Each number in turn is wrong in several ways. */
+static void refuse_page_order(uint32_t positions, uint32_t value_bytes)
+{
+    static const uint32_t no_positions[] = {0, 65537, 65536 + 72, 1u << 31, UINT32_MAX};
+    static const uint32_t no_values[] = {0, 17, 256, (1u << 16) + 1, 1u << 31, UINT32_MAX};
+    const uint32_t right = NSG_TABLE_BYTES(positions, value_bytes), page = NSG_PAGE_BYTES(positions, value_bytes);
+    const uint32_t line = NSG_PAGE_LINE_BYTES(value_bytes);
+    const uint32_t lengths[] = {0, right - 1, right + 1, right - value_bytes, right + value_bytes, 2 * right};
+    const uint32_t rooms[] = {0, 1, page - 1, page - line, page / 2, right};
+    for (unsigned wrong = 1; wrong < 16; wrong++)
+        for (unsigned i = 0; i < 6; i++) {
+            const uint32_t answer = wrong & 1 ? NSG_REFUSED_POSITIONS : wrong & 2 ? NSG_REFUSED_VALUE_BYTES
+                                    : wrong & 4 ? NSG_REFUSED_LENT : NSG_REFUSED_ROOM;
+            refuse_page(wrong & 1 ? no_positions[i % 5] : positions, wrong & 2 ? no_values[i] : value_bytes,
+                        wrong & 4 ? lengths[i] : right, wrong & 8 ? rooms[i] : page + i, answer);
+        }
+}
+
+/* Numbers just out of their ranges come with a table and a room that would fit them; those whose product is small
+   modulo 2^32 with a table of that length. */
+static void test_pages_refused(void)
+{
+    for (uint32_t width = 1; width <= NSG_MOST_VALUE_BYTES; width++) {
+        refuse_page_order(1, width);
+        refuse_page_order(8, width);
+        refuse_page_order(9, width);
+        refuse_page_order(72, width);
+    }
+    refuse_page(0, 1, 0, 0, NSG_REFUSED_POSITIONS);
+    refuse_page(65537, 1, 65537, NSG_PAGE_BYTES(65537, 1), NSG_REFUSED_POSITIONS);
+    refuse_page(1u << 31, 2, 0, 1000, NSG_REFUSED_POSITIONS);
+    refuse_page(1u << 28 | 1, 16, 16, 1000, NSG_REFUSED_POSITIONS);
+    refuse_page(72, 0, 0, 9 * 14, NSG_REFUSED_VALUE_BYTES);
+    refuse_page(72, 17, 72 * 17, NSG_PAGE_BYTES(72, 17), NSG_REFUSED_VALUE_BYTES);
+    refuse_page(1, NSG_MOST_SHARE_BYTES, NSG_MOST_SHARE_BYTES, 10000, NSG_REFUSED_VALUE_BYTES);
+    refuse_page(65536, 1u << 16, 0, 1000, NSG_REFUSED_VALUE_BYTES);
+    refuse_page(65536, (1u << 16) + 1, 65536, 1000, NSG_REFUSED_VALUE_BYTES);
+    refuse_page(65536, 16, NSG_MOST_TABLE_BYTES - 1, NSG_MOST_PAGE_BYTES, NSG_REFUSED_LENT);
+    refuse_page(65536, 16, NSG_MOST_TABLE_BYTES, NSG_MOST_PAGE_BYTES - 1, NSG_REFUSED_ROOM);
+}
+
 static void refuse_expand(uint64_t length, uint64_t start, uint64_t room, uint32_t wanted)
 {
     struct lent seed = lend_filled(0x33, length), out = lend_filled(FILL, room);
@@ -557,6 +611,7 @@ void test_refusals(void)
     test_keys_refused();
     test_draws_refused();
     test_shares_refused();
+    test_pages_refused();
     test_seeds_refused();
     for (int f = 0; f < FUNCTIONS; f++) {
         printf("refusals: %s", names[f]);

@@ -8,9 +8,11 @@
                                                of a key all but the header and the marks: the seeds and the words
                          nsg_draw_card         the same of the key, and the deck
                          nsg_join_shares       the shares
+                         nsg_write_page        the table, though a page is there to be read
                          nsg_expand            the seed
                        What the calls write shows that something was marked: it must be undefined bit for bit where it is secret and
-                       defined elsewhere, and be the bytes that the same call writes where nothing is marked.
+                       defined elsewhere, and be the bytes that the same call writes where nothing is marked. Some bits of each
+                       digit are enough on a page: the others are alike in all digits.
      secrets depends   What is not kept: one thing is marked on which a call does depend, and the call must cause a report. Reports are wanted
                        here, so the status is that of the checks alone. */
 #include "common.h"
@@ -119,6 +121,52 @@ static void test_expand(void)
     CHECK(quietly(nsg_expand(seed.bytes, seed.length, UINT64_MAX, wanted.bytes, wanted.length), NSG_REFUSED_EXPANSION));
     give_back(&seed);
     give_back(&wanted);
+}
+
+/* Whether all digits of a page are undefined and all else is defined, and the bytes, in a copy that is marked as
+   defined, those wanted. */
+static int secret_page(const struct lent *page, uint32_t width, const uint8_t *wanted)
+{
+    struct lent found = lend_filled(DEFINED, page->length), copy = lend(page->bytes, page->length);
+    int good = VALGRIND_GET_VBITS(page->bytes, found.bytes, page->length) == 1;
+    for (uint64_t i = 0; i < page->length; i++) {
+        const int digit = i % NSG_PAGE_LINE_BYTES(width) >= 6 && wanted[i] != ' ' && wanted[i] != '\n';
+        good &= (found.bytes[i] != DEFINED) == digit;
+    }
+    show(copy.bytes, copy.length);
+    good &= memcmp(copy.bytes, wanted, (size_t)copy.length) == 0;
+    give_back(&found);
+    give_back(&copy);
+    return good;
+}
+
+static void test_page(uint32_t positions, uint32_t width)
+{
+    const uint32_t length = NSG_PAGE_BYTES(positions, width);
+    struct lent table = lend_drawn(NSG_TABLE_BYTES(positions, width)), written = lend_number();
+    struct lent out = lend_filled(FILL, length), wanted = lend_filled(FILL, length);
+    CHECK(write_page(positions, width, &table, &wanted, &written) == NSG_ACCEPTED);
+    hide(table.bytes, table.length);
+    CHECK(quietly(write_page(positions, width, &table, &out, &written), NSG_ACCEPTED));
+    CHECK(quietly(told(&written), length));
+    CHECK(secret_page(&out, width, wanted.bytes));
+    out.length--;
+    CHECK(quietly(write_page(positions, width, &table, &out, &written), NSG_REFUSED_ROOM));
+    table.length--;
+    CHECK(quietly(write_page(positions, width, &table, &out, &written), NSG_REFUSED_LENT));
+    give_back(&wanted);
+    give_back(&out);
+    give_back(&written);
+    give_back(&table);
+}
+
+/* Last lines of one cell, of some and of eight, and every width of values. */
+static void test_pages(void)
+{
+    static const uint32_t positions[] = {1, 7, 8, 9, 16, 72, 520};
+    for (unsigned i = 0; i < sizeof positions / sizeof positions[0]; i++)
+        for (uint32_t width = 1; width <= NSG_MOST_VALUE_BYTES; width++)
+            test_page(positions[i], width);
 }
 
 /* What a key answers for a card. All players hold the deck, yet it is marked too: nothing has to depend on it. Keys
@@ -336,6 +384,7 @@ int main(int count, char **words)
     if (!depends) {
         test_expand();
         test_wide_shares();
+        test_pages();
     }
     printf("secrets%s: %u dealings; %lu checks, %lu failed\n", depends ? " depends" : "", dealings, checks_made, checks_failed);
     return checks_failed != 0;

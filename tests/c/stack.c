@@ -15,7 +15,7 @@ static ucontext_t outside, inside;
 /* What the calls work on: the largest rows and the most columns that there are, and a joined table that is not too long. The spoiled draw has
    its last column twice; the narrow one has cells of 15 bytes, and the fifth lies across two blocks of its row. */
 static struct draw draw, spoiled, narrow;
-static struct lent keys, across, table, fault;
+static struct lent keys, across, table, fault, narrow_table, page, written;
 static uint32_t length, number, header[NSG_HEADER_NUMBERS], answer;
 
 /* A player's key, a deck and a card's length, for a draw. */
@@ -34,6 +34,8 @@ static void call_draw_card(void) { answer = draw_card(&key, &deck, card_bytes, &
 static void call_join_shares(void) { answer = nsg_join_shares(6, 16, keys.bytes, 6 * 16, table.bytes, table.length); }
 static void call_join_wide(void) { answer = nsg_join_shares(6, 256, keys.bytes, 6 * 256, table.bytes, table.length); }
 static void call_join_keys(void) { answer = nsg_join_keys(keys.bytes, keys.length, table.bytes, table.length); }
+static void call_write_page(void) { answer = write_page(1024, 16, &table, &page, &written); }
+static void call_write_narrow(void) { answer = write_page(1023, 1, &narrow_table, &page, &written); }
 static void call_held_seed(void) { answer = nsg_held_seed(keys.bytes, length, 3, 31) + nsg_held_seed(keys.bytes, length, 3, 30) == 0; }
 static void call_expand(void) { answer = nsg_expand(draw.seeds.bytes, 32, 0, table.bytes, NSG_MOST_EXPANDED_BYTES); }
 static void call_expand_later(void) { answer = nsg_expand(draw.seeds.bytes, 32, 63, table.bytes, 4096 - 63); }
@@ -47,7 +49,8 @@ static const struct {
              {"nsg_check_key", call_check_key}, {"nsg_open_one", call_open_one},
              {"nsg_open_one, three players, a cell in two blocks", call_open_across}, {"nsg_open_all", call_open_all},
              {"nsg_join_shares", call_join_shares}, {"nsg_join_shares, of the widest shares", call_join_wide},
-             {"nsg_join_keys", call_join_keys}, {"nsg_held_seed", call_held_seed},
+             {"nsg_join_keys", call_join_keys}, {"nsg_write_page", call_write_page},
+             {"nsg_write_page, of one byte", call_write_narrow}, {"nsg_held_seed", call_held_seed},
              {"nsg_expand", call_expand}, {"nsg_expand, from within a block", call_expand_later},
              {"nsg_choose_width", call_choose_width}, {"nsg_sensor_position", call_sensor_position}};
 
@@ -112,6 +115,9 @@ int main(void)
     across.length = key_length(narrow.board);   /* player 0's key */
     table = lend_filled(0, 1024 * 16);
     fault = lend_fault();
+    narrow_table = lend_filled(0x6D, 1023);
+    page = lend_filled(0, NSG_PAGE_BYTES(1024, 16));
+    written = lend_number();
     for (unsigned i = 0; i < sizeof calls / sizeof calls[0]; i++) {
         unsigned used = used_by(calls[i].call) - nothing;
         CHECK(answer == NSG_ACCEPTED);
@@ -122,6 +128,9 @@ int main(void)
     unsigned drawing = used_by_draws(nothing);
     most = drawing > most ? drawing : most;
     printf("stack: at most %u bytes, %u allowed; %lu checks, %lu failed\n", most, NSG_STACK_BYTES, checks_made, checks_failed);
+    give_back(&written);
+    give_back(&page);
+    give_back(&narrow_table);
     give_back(&fault);
     give_back(&table);
     give_back(&across);

@@ -11,6 +11,7 @@ static struct draw draws[BOARDS];
 static struct lent keys[BOARDS], tables[BOARDS], joined[BOARDS];   /* as one thread alone got them */
 static struct lent spoiled[BOARDS];                                /* arrays whose last column stands twice */
 static struct lent decks[BOARDS], cards[BOARDS];                   /* zeros where values are wide: no card is drawn */
+static struct lent pages[BOARDS];                                  /* of the joined table */
 static pthread_barrier_t start;
 
 struct work {
@@ -51,13 +52,24 @@ static int draws_card(unsigned i, uint64_t length, uint8_t *card)
     return nsg_draw_card(keys[i].bytes, length, decks[i].bytes, decks[i].length, CARD, card, CARD) == wanted;
 }
 
-/* One board: deals, opens player 0's table and squares of it, draws a card, joins; counts answers and bytes that
-   differ. */
+/* The joined table written as a page: whether that is accepted and tells the page's length. */
+static int writes_page(unsigned i, struct lent *page)
+{
+    const struct board board = draws[i].board;
+    struct lent written = lend_number();
+    int good = write_page(board.positions, board.value_bytes, &joined[i], page, &written) == NSG_ACCEPTED;
+    good &= told(&written) == page->length;
+    give_back(&written);
+    return good;
+}
+
+/* One board: deals, opens player 0's table and squares of it, draws a card, joins, writes the page; counts answers and
+   bytes that differ. */
 static unsigned differences(unsigned i)
 {
     const struct board board = draws[i].board;
     struct lent own = lend_filled(0, keys[i].length), table = lend_filled(0, tables[i].length), whole = lend_filled(0, joined[i].length);
-    struct lent fault = lend_fault();
+    struct lent fault = lend_fault(), page = lend_filled(0, pages[i].length);
     uint64_t length = keys[i].length / board.players;
     uint8_t card[CARD] = {0};
     unsigned differing = refusals_differing(i, &own);
@@ -69,7 +81,9 @@ static unsigned differences(unsigned i)
     differing += !draws_card(i, length, card) || memcmp(card, cards[i].bytes, CARD) != 0;
     differing += nsg_join_keys(keys[i].bytes, keys[i].length, whole.bytes, whole.length) != NSG_ACCEPTED;
     differing += memcmp(whole.bytes, joined[i].bytes, (size_t)whole.length) != 0;
+    differing += !writes_page(i, &page) || memcmp(page.bytes, pages[i].bytes, (size_t)page.length) != 0;
     differing += nsg_open_all(keys[i].bytes, length - 1, table.bytes, table.length) != NSG_REFUSED_LENGTH;
+    give_back(&page);
     give_back(&fault);
     give_back(&own);
     give_back(&table);
@@ -102,6 +116,8 @@ void test_threads(void)
         decks[i] = lend_drawn(NSG_DECK_BYTES(boards[i].positions, CARD));
         cards[i] = lend_filled(0, CARD);
         CHECK(draws_card(i, key_length(boards[i]), cards[i].bytes));
+        pages[i] = lend_filled(0, NSG_PAGE_BYTES(boards[i].positions, boards[i].value_bytes));
+        CHECK(writes_page(i, &pages[i]));
     }
     CHECK(pthread_barrier_init(&start, NULL, THREADS) == 0);
     for (unsigned t = 0; t < THREADS; t++) {
@@ -122,6 +138,7 @@ void test_threads(void)
         give_back(&joined[i]);
         give_back(&decks[i]);
         give_back(&cards[i]);
+        give_back(&pages[i]);
     }
     printf("threads: %u threads, %u rounds each\n", (unsigned)THREADS, (unsigned)ROUNDS);
 }

@@ -84,7 +84,7 @@ static void record_bytes(const uint8_t *bytes, uint32_t length) { digest = mixed
 /* ---- the comparison's data; reference/FORMAT.md says how it is written */
 
 enum { KEY_LENGTH = 1, DEAL, CHECK_KEY, OPEN_ONE, OPEN_ALL, JOIN_SHARES, JOIN_KEYS, HELD_SEED, EXPAND, CHOOSE_WIDTH,
-       SENSOR_POSITION, DEALING_PROGRAM, JOINING_PROGRAM, DRAW_CARD };
+       SENSOR_POSITION, DEALING_PROGRAM, JOINING_PROGRAM, DRAW_CARD, WRITE_PAGE };
 enum { FILE_HEAD = 24, CASE_HEAD = 68, UNTOUCHED = 0x0BADCAFE };
 
 struct one_case {
@@ -162,6 +162,7 @@ static uint32_t call(const struct one_case *c, const uint8_t *input, uint8_t *ou
     case CHOOSE_WIDTH: return nsg_choose_width(in[0], in[1], numbers);
     case SENSOR_POSITION: return nsg_sensor_position(in[0], numbers);
     case DRAW_CARD: return nsg_draw_card(input, l[0], input + l[0], l[1], in[0], out, c->lent);
+    case WRITE_PAGE: return nsg_write_page(in[0], in[1], input, l[0], out, c->lent, numbers);
     }
     return UNTOUCHED;
 }
@@ -170,7 +171,7 @@ static uint32_t call(const struct one_case *c, const uint8_t *input, uint8_t *ou
 static uint32_t numbers_of(uint32_t operation)
 {
     switch (operation) {
-    case KEY_LENGTH: case HELD_SEED: case CHOOSE_WIDTH: case SENSOR_POSITION: return 1;
+    case KEY_LENGTH: case HELD_SEED: case CHOOSE_WIDTH: case SENSOR_POSITION: case WRITE_PAGE: return 1;
     case CHECK_KEY: return 5;
     }
     return 0;
@@ -218,7 +219,7 @@ static uint32_t same_as_stored(const struct one_case *c, uint32_t inputs)
 static void run_cases(void)
 {
     uint8_t head[FILE_HEAD];
-    uint32_t cases, called = 0, equal = 0, programs = 0, too_large = 0, refused = 0, places = 0, cards = 0;
+    uint32_t cases, called = 0, equal = 0, programs = 0, too_large = 0, refused = 0, places = 0, cards = 0, pages = 0;
     uint32_t held = 0, inputs = 0;
     take(head, FILE_HEAD);
     cases = number_at(head + 8);
@@ -243,6 +244,7 @@ static void run_cases(void)
             refused += c.refusal != 0;
             places += has_place(&c);
             cards += c.operation == DRAW_CARD && c.refusal == 0;
+            pages += c.operation == WRITE_PAGE && c.refusal == 0;
             if (same_as_stored(&c, inputs)) {
                 equal++;
             } else {
@@ -254,16 +256,18 @@ static void run_cases(void)
             }
         }
     }
-    wrong += called - equal + (called == 0) + (places == 0) + (cards == 0);
+    wrong += called - equal + (called == 0) + (places == 0) + (cards == 0) + (pages == 0);
     text("cases: ");
     decimal(called);
     text(" called, of which ");
     decimal(refused);
     text(" are refused, ");
     decimal(places);
-    text(" with a place, and ");
+    text(" with a place, ");
     decimal(cards);
-    text(" draw a card; ");
+    text(" draw a card and ");
+    decimal(pages);
+    text(" write a page; ");
     decimal(equal);
     text(" equal; left out ");
     decimal(programs);
@@ -478,13 +482,16 @@ static uint32_t keys_join(const struct dealing *d, uint32_t limit)
     return good;
 }
 
-/* What was met of cards and of joined shares, a bit for each; it must be all. */
-static uint32_t cards_met;
+/* What was met of cards, of joined shares and of pages, a bit for each; it must be all. */
+static uint32_t kinds_met;
 
 enum { ODD_VALUE = 1, EVEN_VALUE = 2, CARD_OF_1 = 4, CARD_OF_256 = 8, CARD_OF_257 = 16, WIDE_KEY = 32, OTHER_DECK = 64,
-       WRAPPED_DECK = 128, CARD_WITHOUT_ROOM = 256, SHARES_OF_256 = 512, SHARES_OF_257 = 1024, ALL_CARDS = 2047 };
+       WRAPPED_DECK = 128, CARD_WITHOUT_ROOM = 256, SHARES_OF_256 = 512, SHARES_OF_257 = 1024 };
+enum { PAGE_OF_1 = 1 << 11, PAGE_OF_16 = 1 << 12, SHORT_LINE = 1 << 13, WHOLE_LINES = 1 << 14, FIVE_PLACES = 1 << 15,
+       NO_POSITIONS = 1 << 16, POSITIONS_PAST_ALL = 1 << 17, NO_BYTES = 1 << 18, PAGE_OF_17 = 1 << 19,
+       OTHER_TABLE = 1 << 20, PAGE_WITHOUT_ROOM = 1 << 21, ALL_KINDS = (1 << 22) - 1 };
 
-static void meet(uint32_t what, uint32_t met) { cards_met |= met ? what : 0; }
+static void meet(uint32_t what, uint32_t met) { kinds_met |= met ? what : 0; }
 
 /* Draws a deck: eight bytes of each number. */
 static void draw_deck(uint8_t *deck, uint32_t length)
@@ -722,8 +729,88 @@ static void try_join_shares(void)
     meet(SHARES_OF_257, answer == NSG_REFUSED_VALUE_BYTES && bytes == SHARE_BYTES + 1);
 }
 
+/* The byte that the page of a table has at a place. */
+static uint8_t page_byte(uint32_t at, uint32_t positions, uint32_t w, const uint8_t *table)
+{
+    uint32_t line = NSG_PAGE_LINE_BYTES(w), cell = 2 * w + 1, column = at % line, first = at / line * 8, position;
+    if (column == line - 1)
+        return '\n';
+    if (column < 5) {
+        for (uint32_t place = 4; place > column; place--)
+            first /= 10;
+        return (uint8_t)(first == 0 && column < 4 ? ' ' : '0' + first % 10);
+    }
+    position = first + (column - 5) / cell;
+    column = (column - 5) % cell;
+    if (column == 0 || position >= positions)
+        return ' ';
+    return (uint8_t)"0123456789ABCDEF"[table[position * w + (column - 1) / 2] >> (column % 2 == 0 ? 0 : 4) & 15];
+}
+
+/* 1 where all bytes of a page are those of its table. */
+static uint32_t page_is(const uint8_t *page, uint32_t length, uint32_t positions, uint32_t w, const uint8_t *table)
+{
+    for (uint32_t i = 0; i < length; i++)
+        if (page[i] != page_byte(i, positions, w, table))
+            return 0;
+    return 1;
+}
+
+/* What was met by a call of Write page with these numbers. */
+static void meet_page(uint32_t answer, uint32_t positions, uint32_t w)
+{
+    uint32_t accepted = answer == NSG_ACCEPTED;
+    meet(PAGE_OF_1, accepted && w == 1);
+    meet(PAGE_OF_16, accepted && w == VALUE_BYTES);
+    meet(positions % 8 == 0 ? WHOLE_LINES : SHORT_LINE, accepted);
+    meet(FIVE_PLACES, accepted && positions > 10000);
+    meet(positions == 0 ? NO_POSITIONS : POSITIONS_PAST_ALL, answer == NSG_REFUSED_POSITIONS);
+    meet(w == 0 ? NO_BYTES : PAGE_OF_17, answer == NSG_REFUSED_VALUE_BYTES);
+    meet(OTHER_TABLE, answer == NSG_REFUSED_LENT);
+    meet(PAGE_WITHOUT_ROOM, answer == NSG_REFUSED_ROOM);
+}
+
+/* Writes a page, mostly of numbers that there are, with the right table and enough room: the number is the first that
+   fits, and every byte of an accepted page is the one that its place asks for. */
+static void try_page(uint32_t limit)
+{
+    static const uint32_t reach[] = {9, 72, 1000, POSITIONS};
+    uint32_t positions, w, table_bytes, page_bytes, lent, out_bytes, length, written = UNTOUCHED, answer = NSG_ACCEPTED;
+    uint8_t *page;
+    do {
+        positions = 1 + below(reach[below(4)]);
+        w = below(2) == 0 ? 1 : 1 + below(VALUE_BYTES);
+        table_bytes = NSG_TABLE_BYTES(positions, w);
+        page_bytes = NSG_PAGE_BYTES(positions, w);
+        lent = table_bytes + 1 + page_bytes + 2;
+    } while (lent > limit);
+    page = room + table_bytes + 1;
+    draw_deck(room, table_bytes + 1);
+    fill(page, page_bytes + 2, 0xDD);
+    positions = below(8) == 0 ? below(2) * (POSITIONS + 1) : positions;
+    w = below(8) == 0 ? below(2) * (VALUE_BYTES + 1) : w;
+    length = table_bytes + (below(8) == 0 ? 1 - 2 * below(2) : 0);
+    out_bytes = below(8) == 0 ? page_bytes - 1 - below(page_bytes) : page_bytes + below(3);
+    if (out_bytes < page_bytes)
+        answer = NSG_REFUSED_ROOM;
+    if (length != table_bytes)
+        answer = NSG_REFUSED_LENT;
+    if (w == 0 || w > VALUE_BYTES)
+        answer = NSG_REFUSED_VALUE_BYTES;
+    if (positions == 0 || positions > POSITIONS)
+        answer = NSG_REFUSED_POSITIONS;
+    wrong += called(nsg_write_page(positions, w, room, length, page, out_bytes, &written)) != answer;
+    record_number(written);
+    record_bytes(room, lent);
+    wrong += written != (answer == NSG_ACCEPTED ? page_bytes : (uint32_t)UNTOUCHED);
+    page_bytes = answer == NSG_ACCEPTED ? page_bytes : 0;
+    wrong += !page_is(page, page_bytes, positions, w, room);
+    wrong += !all_are(page + page_bytes, lent - table_bytes - 1 - page_bytes, 0xDD);
+    meet_page(answer, positions, w);
+}
+
 /* The calls that need no dealing, with numbers and lengths in and out of their ranges. */
-static void random_small_calls(void)
+static void random_small_calls(uint32_t limit)
 {
     uint32_t number = UNTOUCHED;
     try_expand();
@@ -735,15 +822,16 @@ static void random_small_calls(void)
     record_number(number);
     try_join_shares();
     try_join_shares();
+    try_page(limit);
 }
 
 static void run_random(uint32_t rounds, uint32_t limit)
 {
     for (uint32_t i = 0; i < rounds; i++) {
         random_dealing(limit);
-        random_small_calls();
+        random_small_calls(limit);
     }
-    wrong += (bad_ends != ALL_ENDS) + (in_two_blocks != NOT_DIVIDING) + (cards_met != ALL_CARDS);
+    wrong += (bad_ends != ALL_ENDS) + (in_two_blocks != NOT_DIVIDING) + (kinds_met != ALL_KINDS);
     decimal(calls);
     text(" random calls, those in at most ");
     decimal(limit);
@@ -752,7 +840,7 @@ static void run_random(uint32_t rounds, uint32_t limit)
     text(" bad columns");
     text(bad_ends == ALL_ENDS ? ", each number at each end of an array" : ", NOT at all ends of an array");
     text(in_two_blocks == NOT_DIVIDING ? ", cells in two blocks" : ", NOT of all values cells in two blocks");
-    text(cards_met == ALL_CARDS ? ", and cards of all kinds: " : ", NOT cards of all kinds: ");
+    text(kinds_met == ALL_KINDS ? ", and cards and pages of all kinds: " : ", NOT cards and pages of all kinds: ");
     hexadecimal(digest);
     text("\n");
 }
@@ -820,6 +908,27 @@ static void join_largest_table(void)
     text("\n");
 }
 
+/* All positions on a page, with the widest values for which the room holds table and page. */
+static void write_largest_page(void)
+{
+    uint32_t w = VALUE_BYTES, table_bytes, page_bytes, written = UNTOUCHED;
+    while (NSG_TABLE_BYTES(POSITIONS, w) + NSG_PAGE_BYTES(POSITIONS, w) > ROOM)
+        w--;
+    table_bytes = NSG_TABLE_BYTES(POSITIONS, w);
+    page_bytes = NSG_PAGE_BYTES(POSITIONS, w);
+    draw_deck(room, table_bytes);
+    wrong += called(nsg_write_page(POSITIONS, w, room, table_bytes, room + table_bytes, page_bytes, &written)) != 0;
+    wrong += written != page_bytes || !page_is(room + table_bytes, page_bytes, POSITIONS, w, room);
+    record_bytes(room + table_bytes, page_bytes);
+    text("largest page: value bytes ");
+    decimal(w);
+    text(", ");
+    decimal(page_bytes);
+    text(" bytes: ");
+    hexadecimal(digest);
+    text("\n");
+}
+
 int test(void)
 {
     digest = 0xcbf29ce484222325u;
@@ -833,6 +942,7 @@ int test(void)
     if (ROOM > LARGE_ROOM) {
         run_random(LARGE_ROUNDS, LARGE_ROOM);
         join_largest_table();
+        write_largest_page();
     }
     text(wrong == 0 ? "right\n" : "WRONG\n");
     return wrong != 0;
