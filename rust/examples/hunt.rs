@@ -2,13 +2,10 @@
 //! bytes come from the caller's generator; `main` lends the system's. Drawing is the caller's part and nothing of it is proved:
 //! docs/DEALING.md says what it must do. A board wipes what it drew once the keys are handed out; this program ends instead.
 
-use nosingginger::{choose_width, deal, join_keys, join_shares, open_all, open_one, Board, Dealing};
+use nosingginger::{choose_width, deal, join_keys, join_shares, open_all, open_one, write_page, Board, Dealing};
 use std::error::Error;
 use std::fs::File;
-use std::io::{self, Read};
-
-/// The squares of a line.
-const LINE: usize = 8;
+use std::io::{self, Read, Write};
 
 /// A generator fills the bytes that it is lent with random ones, or says why it cannot: then nothing is dealt.
 trait Generator: FnMut(&mut [u8]) -> io::Result<()> {}
@@ -69,11 +66,11 @@ fn found(table: &[u8]) -> Vec<Piece> {
     squares.filter(|(value, _)| **value != 0).map(|(&value, point)| Piece { point, value }).collect()
 }
 
-fn show(table: &[u8]) {
-    for line in table.chunks(LINE) {
-        let squares: Vec<String> = line.iter().map(|byte| if *byte == 0 { " .".into() } else { format!("{byte:02X}") }).collect();
-        println!("  {}", squares.join(" "));
-    }
+/// Prints a table as the page that a club pins up.
+fn show(board: Board, table: &[u8]) -> Result<(), Box<dyn Error>> {
+    let mut page = vec![0; board.page_len()?];
+    write_page(board.positions, board.value_bytes, table, &mut page)?;
+    Ok(io::stdout().write_all(&page)?)
 }
 
 fn main() -> Result<(), Box<dyn Error>> {
@@ -89,7 +86,7 @@ fn main() -> Result<(), Box<dyn Error>> {
     let mut table = vec![0; board.table_len()?];
     open_all(&keys[..board.key_len()?], &mut table)?;
     println!("What player 0 sees alone:");
-    show(&table);
+    show(board, &table)?;
 
     let mut shares = [0; 4];
     for (key, share) in keys.chunks(board.key_len()?).zip(shares.chunks_mut(1)) {
@@ -101,7 +98,7 @@ fn main() -> Result<(), Box<dyn Error>> {
 
     join_keys(&keys, &mut table)?;
     println!("What all see together:");
-    show(&table);
+    show(board, &table)?;
     for piece in found(&table) {
         println!("Found: {:02X} on position {}.", piece.value, piece.point);
     }

@@ -25,6 +25,8 @@ pub const SEED_BYTES: usize = 32;
 pub const MOST_EXPANDED_BYTES: usize = 4_096;
 /// The sensors of the spring board, nine lines of eight squares.
 pub const SENSORS: u32 = 72;
+/// The cells of a line of a page.
+pub const PAGE_CELLS: usize = 8;
 /// The stack that a call may need: a thread with this much to spare is enough. The C tests measure every call of the library, and fail
 /// above it.
 pub const STACK_BYTES: usize = 32_768;
@@ -39,6 +41,8 @@ pub const MOST_WORDS_BYTES: usize = (MOST_COLUMNS - 1) * MOST_EXPANDED_BYTES;
 pub const MOST_TABLE_BYTES: usize = 1_048_576;
 /// The most bytes that [`Board::deck_len`] gives.
 pub const MOST_DECK_BYTES: usize = 16_777_216;
+/// The most bytes that [`page_len`] gives.
+pub const MOST_PAGE_BYTES: usize = 2_211_840;
 /// The most bytes that [`Board::key_len`] gives.
 pub const MOST_KEY_BYTES: usize = 263_176;
 /// The most bytes that [`Board::keys_len`] gives.
@@ -62,6 +66,8 @@ const _: () = assert!(usize::BITS >= 32);
 /// assert_eq!(spring.table_len()?, 72);
 /// // What draw_card is lent beside the key, for cards of 100 bytes.
 /// assert_eq!(spring.deck_len(100)?, 7_200);
+/// // What write_page writes: nine lines of 30 bytes.
+/// assert_eq!(spring.page_len()?, 270);
 /// assert_eq!(Board { players: u32::MAX, ..spring }.seeds_len(), Err(Refusal::Players));
 /// # Ok::<(), Refusal>(())
 /// ```
@@ -123,6 +129,12 @@ impl Board {
         Ok(board.deck_len(card_bytes as usize))
     }
 
+    /// Bytes of a table's page, as [`write_page`](crate::write_page) writes it: as many lines as positions / 8, rounded up,
+    /// of 6 + 8 × (2 × value_bytes + 1) bytes. [`page_len`] tells it without players and width.
+    pub fn page_len(self) -> Result<usize, Refusal> {
+        self.in_range().map(InRange::page_len)
+    }
+
     /// Bytes of one player's key: [`key_length`] as the length of a slice.
     pub fn key_len(self) -> Result<usize, Refusal> {
         self.in_range().map(|board| board.key_len)
@@ -182,7 +194,28 @@ impl InRange {
         self.positions * card_bytes
     }
 
+    fn page_len(self) -> usize {
+        self.positions.div_ceil(PAGE_CELLS) * (6 + PAGE_CELLS * (2 * self.value_bytes + 1))
+    }
+
     fn keys_len(self) -> usize {
         self.players * self.key_len
     }
+}
+
+/// Bytes of the page of a table, as [`write_page`](crate::write_page) writes it, where no more is known than how many
+/// positions it has and how many bytes an entry.
+///
+/// Refuses [`Positions`](Refusal::Positions), [`ValueBytes`](Refusal::ValueBytes), as [`write_page`](crate::write_page)
+/// does.
+///
+/// ```
+/// # use nosingginger::{page_len, Refusal};
+/// assert_eq!(page_len(72, 1), Ok(270));
+/// assert_eq!(page_len(65_537, 17), Err(Refusal::Positions));
+/// assert_eq!(page_len(72, 17), Err(Refusal::ValueBytes));
+/// ```
+pub fn page_len(positions: u32, value_bytes: u32) -> Result<usize, Refusal> {
+    // Players and width matter to no page, and these are refused with no positions.
+    Board { players: LEAST_PLAYERS, positions, width: MOST_WIDTH, value_bytes }.page_len()
 }

@@ -5,9 +5,14 @@
 #![deny(clippy::panic, clippy::unreachable, clippy::unwrap_used, clippy::expect_used)]
 #![deny(clippy::indexing_slicing, clippy::arithmetic_side_effects)]
 
+#[cfg(feature = "alloc")]
+extern crate alloc;
+
 mod board;
 pub mod raw;
 mod refusal;
+
+use core::fmt;
 
 pub use board::*;
 pub use refusal::Refusal;
@@ -41,14 +46,19 @@ pub struct Header {
     pub player: u32,
 }
 
-/// The library's answer as a result. The proved library gives 0 and the numbers of refusals alone; an archive that gives another is not this
-/// crate's, and what it did is not known. So this stops, rather than call it accepted or refused.
+/// The end, where an archive does what the proved library never does: it is not this crate's, and what else it did is not
+/// known. So this stops, rather than call it accepted or refused.
 #[expect(clippy::panic, reason = "the crate's only one, and the README names it")]
+fn not_the_archive(what: fmt::Arguments<'_>) -> ! {
+    panic!("the archive is not this crate's: {what}")
+}
+
+/// The library's answer as a result. The proved library gives 0 and the numbers of refusals alone.
 fn judged(number: u32, refusal: Option<Refusal>) -> Result<(), Refusal> {
     match refusal {
         Some(refusal) => Err(refusal),
         None if number == 0 => Ok(()),
-        None => panic!("the archive is not this crate's: it gave the number {number}"),
+        None => not_the_archive(format_args!("it gave the number {number}")),
     }
 }
 
@@ -254,6 +264,63 @@ pub fn join_keys(keys: &[u8], table: &mut [u8]) -> Result<(), Refusal> {
     let (keys, length) = lent(keys);
     let (table, table_length) = lent_out(table);
     answered(unsafe { raw::nsg_join_keys(keys, length, table, table_length) })
+}
+
+/// **Write page**: writes a table as lines of text, to be printed and pinned up, and gives how many bytes that are:
+/// [`page_len`]. A line has eight positions: the first of them in five places, right-aligned with spaces; for each a
+/// space and its entry in 2 × value_bytes upper-case hexadecimal digits, byte 0 first; as many spaces for each cell past
+/// the last position; a line feed. All bytes are ASCII.
+///
+/// Every line is equally long, 6 + 8 × (2 × value_bytes + 1) bytes, so a cell is found by its line and column alone: the
+/// digits of position a begin at (a div 8) × line + 6 + (a mod 8) × (2 × value_bytes + 1).
+///
+/// Refuses [`Positions`](Refusal::Positions), [`ValueBytes`](Refusal::ValueBytes) for value_bytes that are not 1 to
+/// [`MOST_VALUE_BYTES`], [`Lent`](Refusal::Lent) for a table that is not positions × value_bytes bytes,
+/// [`Room`](Refusal::Room).
+///
+/// ```
+/// # use nosingginger::{page_len, write_page, Refusal};
+/// // Ten squares of one byte. The last line has six cells past them, of three spaces each.
+/// let table = [0, 1, 2, 3, 4, 5, 6, 7, 8, 0xA5];
+/// let mut page = [0; 100];
+/// let written = write_page(10, 1, &table, &mut page)?;
+/// assert_eq!(written, page_len(10, 1)?);
+/// let text = core::str::from_utf8(&page[..written]).unwrap();
+/// assert_eq!(text, concat!("    0 00 01 02 03 04 05 06 07\n", "    8 08 A5                  \n"));
+///
+/// // Square 9 is in line 1, cell 1; lines have 30 bytes and cells 3.
+/// assert_eq!(&text[30 + 6 + 3..][..2], "A5");
+/// assert_eq!(write_page(10, 1, &table, &mut page[..59]), Err(Refusal::Room));
+/// # Ok::<(), Refusal>(())
+/// ```
+pub fn write_page(positions: u32, value_bytes: u32, table: &[u8], output: &mut [u8]) -> Result<usize, Refusal> {
+    let (table, table_length) = lent(table);
+    let (out, out_length) = lent_out(output);
+    let mut written = 0;
+    let number = unsafe { raw::nsg_write_page(positions, value_bytes, table, table_length, out, out_length, &mut written) };
+    answered(number).map(|()| written as usize)
+}
+
+/// The page that [`write_page`] writes, as text of its own. This function alone takes memory from the heap, so it is here
+/// with the feature `alloc` only.
+///
+/// Refuses [`Positions`](Refusal::Positions), [`ValueBytes`](Refusal::ValueBytes), [`Lent`](Refusal::Lent), as
+/// [`write_page`] does.
+///
+/// ```
+/// # use nosingginger::{page, Refusal};
+/// let text = page(3, 2, &[0xCA, 0xFE, 0, 1, 0xBE, 0xEF])?;
+/// assert_eq!(text.trim_end(), "    0 CAFE 0001 BEEF");
+/// assert_eq!(text.len(), 6 + 8 * 5);
+/// assert_eq!(page(3, 2, &[0xCA, 0xFE]), Err(Refusal::Lent));
+/// # Ok::<(), Refusal>(())
+/// ```
+#[cfg(feature = "alloc")]
+pub fn page(positions: u32, value_bytes: u32, table: &[u8]) -> Result<alloc::string::String, Refusal> {
+    let mut bytes = alloc::vec![0; page_len(positions, value_bytes)?];
+    let written = write_page(positions, value_bytes, table, &mut bytes)?;
+    bytes.truncate(written);
+    Ok(alloc::string::String::from_utf8(bytes).unwrap_or_else(|_| not_the_archive(format_args!("its page is no text"))))
 }
 
 /// **Held seed**: the 32 bytes of the key itself that are the seed of a grid row and column. There are none where [`check_key`] refuses

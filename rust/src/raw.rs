@@ -60,6 +60,17 @@ extern "C" {
     /// [`join_keys`](crate::join_keys).
     pub fn nsg_join_keys(keys: *const u8, keys_length: u64, out: *mut u8, out_length: u64) -> u32;
 
+    /// [`write_page`](crate::write_page); the bytes written go to `written`.
+    pub fn nsg_write_page(
+        positions: u32,
+        value_bytes: u32,
+        table: *const u8,
+        table_length: u64,
+        out: *mut u8,
+        out_length: u64,
+        written: *mut u32,
+    ) -> u32;
+
     /// Where the 32 bytes of [`held_seed`](crate::held_seed) begin in the key; 0 where there are none.
     pub fn nsg_held_seed(key: *const u8, key_length: u64, grid_row: u32, column: u32) -> u64;
 

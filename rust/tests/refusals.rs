@@ -1,8 +1,8 @@
 //! Every refusal by its name, from a call that meets it, one step away from a call that is accepted. The refusals of a column at every place.
 
 use nosingginger::{
-    check_key, choose_width, deal, draw_card, expand, join_keys, join_shares, key_length, open_all, open_one, sensor_position, Board,
-    Dealing, Header, Refusal, MOST_EXPANDED_BYTES, MOST_SHARE_BYTES,
+    check_key, choose_width, deal, draw_card, expand, join_keys, join_shares, key_length, open_all, open_one, page_len, sensor_position,
+    write_page, Board, Dealing, Header, Refusal, MOST_EXPANDED_BYTES, MOST_SHARE_BYTES,
 };
 use reference::draw::Generator;
 
@@ -276,6 +276,49 @@ fn of_drawing_from_another_deck() {
         assert_eq!(card, vec![0xC3; card_bytes]);
         assert_eq!(draw_card(key, &deck[..right], card_bytes as u32, &mut card), Ok(()));
     }
+}
+
+/// A page that is refused with this, and that leaves what the output was.
+#[track_caller]
+fn refuses_to_write(positions: u32, value_bytes: u32, table: &[u8], room: usize, refusal: Refusal) {
+    let mut output = vec![0xC3; room];
+    let answer = write_page(positions, value_bytes, table, &mut output);
+    assert_eq!(answer, Err(refusal), "{positions} positions, {value_bytes} bytes, a table of {}, room for {room}", table.len());
+    assert_eq!(output, vec![0xC3; room]);
+}
+
+/// Every choice of things that are wrong, each in several ways: the first of them is told.
+#[test]
+fn of_writing_a_page() {
+    for (positions, value_bytes) in [(1, 1), (8, 16), (9, 3), (72, 1), (1_000, 2)] {
+        let (length, room) = ((positions * value_bytes) as usize, page_len(positions, value_bytes).unwrap());
+        let others = [0, 17, 256, 1 << 16 | 1, 1 << 31, u32::MAX];
+        let tables = [0, length - 1, length + 1, 2 * length, length - value_bytes as usize, length + value_bytes as usize];
+        let rooms = [0, 1, room - 1, room / 2, room / 3, length];
+        for (wrong, way) in (1_u32..16).flat_map(|wrong| (0..6).map(move |way| (wrong, way))) {
+            let is_wrong = |part: u32| wrong >> part & 1 == 1;
+            let positions = if is_wrong(0) { [0, 65_537, 65_608, 1 << 24 | 1, 1 << 31, u32::MAX][way] } else { positions };
+            let value_bytes = if is_wrong(1) { others[way] } else { value_bytes };
+            let table = vec![0x5A; if is_wrong(2) { tables[way] } else { length }];
+            let room = if is_wrong(3) { rooms[way] } else { room + way };
+            let refusals = [Refusal::Positions, Refusal::ValueBytes, Refusal::Lent, Refusal::Room];
+            refuses_to_write(positions, value_bytes, &table, room, refusals[wrong.trailing_zeros() as usize]);
+        }
+    }
+}
+
+/// Numbers just out of their ranges, with a table and a room that would fit them; and those whose product is small where
+/// it wraps at 32 bits, with such a table.
+#[test]
+fn of_writing_a_page_that_would_fit() {
+    refuses_to_write(0, 1, &[], 0, Refusal::Positions);
+    refuses_to_write(65_537, 1, &[0; 65_537], 8_193 * 30, Refusal::Positions);
+    refuses_to_write(1 << 28 | 1, 16, &[0; 16], 1_000, Refusal::Positions);
+    refuses_to_write(72, 0, &[], 9 * 14, Refusal::ValueBytes);
+    refuses_to_write(72, 17, &[0; 72 * 17], 9 * 286, Refusal::ValueBytes);
+    refuses_to_write(1, MOST_SHARE_BYTES, &[0; 256], 10_000, Refusal::ValueBytes);
+    refuses_to_write(65_536, 1 << 16, &[], 1_000, Refusal::ValueBytes);
+    refuses_to_write(65_536, 1 << 16 | 1, &[0; 65_536], 300_000, Refusal::ValueBytes);
 }
 
 /// Starts that are refused with so many bytes: just past the last that is accepted; far past it, some of them small

@@ -1,9 +1,9 @@
 //! The sizes that a board tells, held to what the calls accept: a length one less or one more is refused, or is too short for the output.
 
 use nosingginger::{
-    check_key, choose_width, deal, draw_card, held_seed, join_keys, key_length, open_all, Board, Dealing, Refusal, MOST_ARRAYS_BYTES,
-    MOST_COLUMNS, MOST_DECK_BYTES, MOST_GRID_ROWS, MOST_KEYS_BYTES, MOST_KEY_BYTES, MOST_SEEDS_BYTES, MOST_SHARE_BYTES, MOST_TABLE_BYTES,
-    MOST_WORDS_BYTES,
+    check_key, choose_width, deal, draw_card, held_seed, join_keys, key_length, open_all, page_len, write_page, Board, Dealing, Refusal,
+    MOST_ARRAYS_BYTES, MOST_COLUMNS, MOST_DECK_BYTES, MOST_GRID_ROWS, MOST_KEYS_BYTES, MOST_KEY_BYTES, MOST_PAGE_BYTES, MOST_POSITIONS,
+    MOST_SEEDS_BYTES, MOST_SHARE_BYTES, MOST_TABLE_BYTES, MOST_VALUE_BYTES, MOST_WORDS_BYTES,
 };
 use reference::draw::Generator;
 
@@ -137,6 +137,31 @@ fn a_deck_has_this_length_and_no_other() {
     assert_eq!(LARGEST.deck_len(1), Err(Refusal::CardKey));
 }
 
+/// A page has a length where it can be written, and there alone: the refusals are the writing's own, and a board's are
+/// the same where it is one.
+#[test]
+fn a_page_has_this_length_and_no_other() {
+    let numbers = [0, 1, 2, 7, 8, 9, 16, 17, 72, 256, 65_535, 65_536, 65_537, 1 << 31, u32::MAX];
+    for (positions, value_bytes) in numbers.into_iter().flat_map(|positions| numbers.map(|value_bytes| (positions, value_bytes))) {
+        let length = page_len(positions, value_bytes);
+        let mut page = vec![0xC3; length.unwrap_or(100) + 1];
+        let table = vec![0x5A; length.map_or(100, |_| positions as usize * value_bytes as usize)];
+        let mut write = |room: usize| write_page(positions, value_bytes, &table, &mut page[..room]);
+        match length {
+            Ok(length) => {
+                assert_eq!(write(length - 1), Err(Refusal::Room), "{positions}, {value_bytes}");
+                assert_eq!([write(length), write(length + 1)], [Ok(length); 2], "{positions}, {value_bytes}");
+                assert!(length <= MOST_PAGE_BYTES);
+            }
+            Err(refusal) => assert_eq!([write(0), write(100)], [Err(refusal); 2], "{positions}, {value_bytes}"),
+        }
+        for board in [2, 6].map(|players| Board { players, positions, width: 256, value_bytes }) {
+            assert_eq!(board.page_len(), length, "{board:?}");
+        }
+    }
+    assert_eq!(page_len(MOST_POSITIONS, MOST_VALUE_BYTES), Ok(MOST_PAGE_BYTES));
+}
+
 /// A player holds the seeds of half of the columns in every grid row, and none behind the last.
 #[test]
 fn columns_and_grid_rows_are_where_seeds_are_held() {
@@ -156,7 +181,7 @@ fn columns_and_grid_rows_are_where_seeds_are_held() {
 }
 
 /// Every size of a board.
-fn sizes(board: Board) -> [Result<usize, Refusal>; 8] {
+fn sizes(board: Board) -> [Result<usize, Refusal>; 9] {
     [
         board.columns(),
         board.grid_rows(),
@@ -164,6 +189,7 @@ fn sizes(board: Board) -> [Result<usize, Refusal>; 8] {
         board.seeds_len(),
         board.words_len(),
         board.table_len(),
+        board.page_len(),
         board.key_len(),
         board.keys_len(),
     ]
@@ -178,7 +204,7 @@ fn every_size_refuses_as_key_length_does() {
             for (width, value_bytes) in numbers.into_iter().flat_map(|width| numbers.map(|value_bytes| (width, value_bytes))) {
                 let board = Board { players, positions, width, value_bytes };
                 if let Err(refusal) = key_length(board) {
-                    assert_eq!(sizes(board), [Err(refusal); 8], "{board:?}");
+                    assert_eq!(sizes(board), [Err(refusal); 9], "{board:?}");
                     assert_eq!([0, 1].map(|card_bytes| board.deck_len(card_bytes)), [Err(refusal); 2], "{board:?}");
                     met[refusal.number() as usize - 1] += 1;
                 } else {
@@ -199,6 +225,7 @@ fn the_largest_board_has_the_largest_sizes() {
         MOST_SEEDS_BYTES,
         MOST_WORDS_BYTES,
         MOST_TABLE_BYTES,
+        MOST_PAGE_BYTES,
         MOST_KEY_BYTES,
         MOST_KEYS_BYTES,
     ];

@@ -1,5 +1,5 @@
-//! A deal without the standard library and without a heap, as on a small board: it draws, deals, opens and joins in memory of a fixed size.
-//! That it links shows that the crate needs neither: a second `panic_impl`, or no allocator, would stop the build.
+//! A deal without the standard library and without a heap, as on a small board: it draws, deals, opens, joins and writes the page in memory
+//! of a fixed size. That it links shows that the crate needs neither: a second `panic_impl`, or no allocator, would stop the build.
 //!
 //! What a board would have of its own comes here from the C library: random bytes (`getrandom`), an end (`abort`), and the memory functions
 //! that the archive wants. The exit status is 0 where the piece is found as it was hidden, 1 where it is not, and 2 where a call was refused.
@@ -9,7 +9,7 @@
 
 use core::ffi::{c_int, c_uint, c_void};
 use core::panic::PanicInfo;
-use nosingginger::{deal, join_keys, join_shares, open_one, Board, Dealing, Refusal};
+use nosingginger::{deal, join_keys, join_shares, open_one, write_page, Board, Dealing, Refusal};
 
 #[link(name = "c")]
 extern "C" {
@@ -30,6 +30,8 @@ const WORDS: usize = 12;
 const KEY: usize = 227;
 const KEYS: usize = 2 * KEY;
 const TABLE: usize = 72;
+const LINE: usize = 30;
+const PAGE: usize = 9 * LINE;
 
 const POINT: u32 = 37;
 const VALUE: u8 = 0xA5;
@@ -70,8 +72,18 @@ fn dealt() -> Result<[u8; KEYS], Refusal> {
 
 /// The sizes are what the library says of the board.
 fn sizes_fit() -> Result<bool, Refusal> {
-    let told = [BOARD.arrays_len()?, BOARD.seeds_len()?, BOARD.words_len()?, BOARD.key_len()?, BOARD.keys_len()?, BOARD.table_len()?];
-    Ok(told == [ARRAYS, SEEDS, WORDS, KEY, KEYS, TABLE])
+    let parts = [BOARD.arrays_len()?, BOARD.seeds_len()?, BOARD.words_len()?, BOARD.key_len()?, BOARD.keys_len()?];
+    Ok(parts == [ARRAYS, SEEDS, WORDS, KEY, KEYS] && [BOARD.table_len()?, BOARD.page_len()?] == [TABLE, PAGE])
+}
+
+/// Whether the table's page has the piece's digits on its square and zeros on every other, each found by its line and
+/// column alone.
+fn page_shows(table: &[u8]) -> Result<bool, Refusal> {
+    let mut page = [0; PAGE];
+    let written = write_page(BOARD.positions, BOARD.value_bytes, table, &mut page)?;
+    let cells = page.chunks(LINE).flat_map(|line| line[6..].chunks(3));
+    let as_hidden = (0..).zip(cells).all(|(position, cell)| cell.starts_with(if position == POINT { b"A5" } else { b"00" }));
+    Ok(as_hidden && written == PAGE)
 }
 
 /// Whether the piece is found as it was hidden, on its square and on no other.
@@ -86,7 +98,7 @@ fn found() -> Result<bool, Refusal> {
     let mut table = [0; TABLE];
     join_keys(&keys, &mut table)?;
     let as_hidden = (0..).zip(table).all(|(position, entry)| entry == if position == POINT { VALUE } else { 0 });
-    Ok(as_hidden && value == [VALUE])
+    Ok(as_hidden && value == [VALUE] && page_shows(&table)?)
 }
 
 #[no_mangle]
