@@ -68,6 +68,7 @@ struct match {
     const uint8_t *decks; /* the first; the next begin NSG_MOST_DECK_BYTES on from one another */
     uint32_t card_bytes, deck_count, next_deck;
     uint64_t deck_length;
+    const uint8_t *table; /* for Write page, which takes no key */
 };
 
 static void *got(void *p)
@@ -145,7 +146,7 @@ static struct match drawn_match(uint32_t players, uint32_t positions, uint32_t w
 
 /* ---- tasks: one call of a contender */
 
-enum work { EXPAND, OPEN_ONE, OPEN_ALL, DEAL, JOIN_KEYS, DRAW_CARD, READ_ONCE };
+enum work { EXPAND, OPEN_ONE, OPEN_ALL, DEAL, JOIN_KEYS, DRAW_CARD, READ_ONCE, WRITE_PAGE };
 
 struct task {
     enum work work;
@@ -154,6 +155,7 @@ struct task {
     expand_call *expand; /* for EXPAND */
     uint64_t length;     /* for EXPAND */
     uint32_t player;     /* for DRAW_CARD, whose key it is; the others take the first */
+    write_page_call *write_page;
     uint8_t *out;        /* has room for what the task writes */
 };
 
@@ -175,6 +177,7 @@ static uint32_t done(const struct task *t, int before)
     static const uint8_t seed[SEED] = {1, 2, 3};
     struct match *m = t->match;
     uint32_t fault[NSG_FAULT_NUMBERS]; /* stays as it is: no deal here is refused */
+    uint32_t written;
     switch (t->work) {
     case EXPAND:
         return t->expand(seed, SEED, 0, t->out, t->length);
@@ -190,6 +193,9 @@ static uint32_t done(const struct task *t, int before)
     case READ_ONCE:
         t->out[0] = read_once(deck_in_turn(m), m->deck_length);
         return NSG_ACCEPTED;
+    case WRITE_PAGE:
+        return t->write_page(m->positions, m->value_bytes, m->table, m->table_length, t->out, NSG_MOST_PAGE_BYTES,
+                             &written);
     default:
         return t->by->deal(m->players, m->positions, m->width, m->value_bytes, m->point, m->value, m->value_bytes, m->arrays,
                            m->arrays_length, m->seeds, m->seeds_length, m->words, m->words_length, t->out, m->keys_length, fault);
@@ -324,6 +330,51 @@ static void compare_reading(struct match *m)
     }
 }
 
+/* A page's contenders. */
+static const struct {
+    const char *name;
+    write_page_call *write_page;
+} writers[] = {{"ours", nsg_write_page}, {"plain C", plain_write_page}};
+enum { WRITERS = sizeof writers / sizeof writers[0] };
+
+static struct match drawn_table(uint32_t positions, uint32_t value_bytes)
+{
+    struct match m = {.positions = positions, .value_bytes = value_bytes};
+    m.table_length = NSG_TABLE_BYTES(positions, value_bytes);
+    m.table = drawn_bytes(m.table_length);
+    return m;
+}
+
+/* Both write the same page, say the same number of bytes, and leave those behind it. */
+static void compare_page(const struct match *m)
+{
+    const uint64_t length = NSG_PAGE_BYTES(m->positions, m->value_bytes), room = length + GUARD;
+    uint8_t *expected = bytes(room), *given = bytes(room);
+    for (int i = 0; i < WRITERS; i++) {
+        uint8_t *out = i == OURS ? expected : given;
+        uint32_t written = 0;
+        memset(out, 0xAA, room);
+        uint32_t answer = writers[i].write_page(m->positions, m->value_bytes, m->table, m->table_length, out, length,
+                                                &written);
+        same("write page", writers[i].name, answer, expected, out, room);
+        if (written != length)
+            fail("write page", writers[i].name, "another number of bytes");
+    }
+    free(expected);
+    free(given);
+}
+
+/* Pages of every width, with last lines of every length. */
+static void compare_pages(void)
+{
+    for (uint32_t value_bytes = 1; value_bytes <= NSG_MOST_VALUE_BYTES; value_bytes++)
+        for (uint32_t positions = 1; positions <= 200; positions++) {
+            struct match m = drawn_table(positions, value_bytes);
+            compare_page(&m);
+            free((void *)m.table);
+        }
+}
+
 /* ---- races: tasks that take turns */
 
 struct timing {
@@ -366,7 +417,7 @@ static int calls_of_turn(const struct task *t)
 /* Adds a task to a race. All tasks that are timed write to one place, so that none has a better one. */
 static void enter(struct race *r, struct task task)
 {
-    static _Alignas(64) uint8_t out[NSG_MOST_KEYS_BYTES];
+    static _Alignas(64) uint8_t out[NSG_MOST_PAGE_BYTES]; /* all keys take less */
     task.out = out;
     r->times[r->count] = bytes(PASSES * MOST_ROUNDS * sizeof(double));
     r->calls[r->count] = calls_of_turn(&task);
@@ -458,13 +509,27 @@ static const struct {
 };
 enum { DECKS = sizeof decks / sizeof decks[0], DECK_PLAYERS = 3 };
 
-static struct match matches[BOARDS], growing[2][3], drawing[DECKS];
+/* Pages, whose tables are drawn at random: a joined one is zeros but for the piece, and who branches on a digit would
+   foresee them. */
+static const struct {
+    const char *name;
+    uint32_t positions, value_bytes;
+    double limit;
+} pages[] = {
+    {"N 72, w 1: the spring board", 72, 1, 1.20},
+    {"N 65,536, w 1", 65536, 1, 1.20},
+    {"N 65,536, w 16", 65536, 16, 1.20},
+};
+enum { PAGES = sizeof pages / sizeof pages[0] };
+
+static struct match matches[BOARDS], growing[2][3], drawing[DECKS], writing[PAGES];
 
 /* All races. BearSSL runs in the races of expansion too, our Expand in one race of Open one, our Open all in the race
-   of Join keys and reading once in the races of Draw card, each as the fourth. */
+   of Join keys and reading once in the races of Draw card, each as the fourth. In those of Write page ours and plain C
+   run alone. */
 static struct {
     struct race expand[EXPANSIONS], open_one[BOARDS], open_all[WHOLE_BOARDS], deal[WHOLE_BOARDS], join_keys, growth[2];
-    struct race draw_card[DECKS];
+    struct race draw_card[DECKS], write_page[PAGES];
 } races;
 enum { RACES = sizeof races / sizeof(struct race) };
 
@@ -499,6 +564,18 @@ static void prepare_cards(void)
     }
 }
 
+static void prepare_pages(void)
+{
+    compare_pages();
+    for (int k = 0; k < PAGES; k++) {
+        writing[k] = drawn_table(pages[k].positions, pages[k].value_bytes);
+        compare_page(&writing[k]);
+        for (int i = 0; i < WRITERS; i++)
+            enter(&races.write_page[k],
+                  (struct task){.work = WRITE_PAGE, .match = &writing[k], .write_page = writers[i].write_page});
+    }
+}
+
 static void prepare(void)
 {
     for (int k = 0; k < EXPANSIONS; k++)
@@ -527,6 +604,7 @@ static void prepare(void)
             enter_all(&races.growth[f], OPEN_ALL, &growing[f][k]);
         }
     prepare_cards();
+    prepare_pages();
 }
 
 /* ---- tables */
@@ -600,6 +678,20 @@ static void print_cards(void)
         printf(" %.2f |", t[OURS].best / t[LIBSODIUM].best);
         print_goal(t[OURS].best / t[CONTENDERS].best, decks[k].reading_goal);
         printf(" %.0f %% |\n", spread(t, CONTENDERS + 1));
+    }
+}
+
+static void print_pages(void)
+{
+    puts("\n## Write page\n\n"
+         "| page | bytes | ours, ns | plain C, ns | ours / plain C | at most | spread |\n"
+         "|---|---:|---:|---:|---:|---:|---:|");
+    for (int k = 0; k < PAGES; k++) {
+        const struct timing *t = races.write_page[k].timings;
+        printf("| %s | %u | %.0f | %.0f |", pages[k].name, NSG_PAGE_BYTES(pages[k].positions, pages[k].value_bytes),
+               t[OURS].best, t[PLAIN].best);
+        print_ratio(t[OURS].best / t[PLAIN].best, pages[k].limit);
+        printf(" %.0f %% |\n", spread(t, WRITERS));
     }
 }
 
@@ -683,6 +775,7 @@ int main(void)
     }
     print_table();
     print_cards();
+    print_pages();
     print_open_one();
     print_join();
     print_peer();
