@@ -1,5 +1,5 @@
-// The header in C++, and the archive behind it: the spring board's key length for four players, a page in an array of its
-// size, and the place of a column that stands twice.
+// The header in C++, and the archive behind it: the spring board's key length for four players, a page in an array of
+// its size, and the place of a column that stands twice.
 #include <nosingginger.h>
 
 int main()

@@ -11,8 +11,8 @@
                          nsg_write_page        the table, though a page is there to be read
                          nsg_expand            the seed
                        What the calls write shows that something was marked: it must be undefined bit for bit where it is secret and
-                       defined elsewhere, and be the bytes that the same call writes where nothing is marked. Some bits of each
-                       digit are enough on a page: the others are alike in all digits.
+                       defined elsewhere, and be the bytes that the same call writes where nothing is marked. On a page some
+                       bits of each digit are enough: the others are alike in all digits.
      secrets depends   What is not kept: one thing is marked on which a call does depend, and the call must cause a report. Reports are wanted
                        here, so the status is that of the checks alone. */
 #include "common.h"
