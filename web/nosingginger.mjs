@@ -88,15 +88,20 @@ export class Refused extends Error {
 
 const SEED_BYTES = 32;
 const HEADER_NUMBERS = 5;
-const FAULT_NUMBERS = 2;
+// What a call tells in numbers beside the bytes that it writes: the place of a bad column, or how many bytes a board's
+// page has.
+const TOLD_NUMBERS = 2;
 const NUMBER_BYTES = 4;
-const PAGE_BYTES = 65536;
+const MEMORY_PAGE_BYTES = 65536;
 const MOST_PLAYERS = 6;
+const MOST_POSITIONS = 65536;
+const MOST_VALUE_BYTES = 16;
+const SQUARES_IN_A_LINE = 8;
 // The longest share that joinShares takes, and the longest card.
 const MOST_SHARE_BYTES = 256;
 const MOST_DECK_BYTES = 16777216;
-const CALLS = ['key_length', 'deal', 'check_key', 'open_one', 'open_all', 'draw_card', 'join_shares', 'join_keys',
-    'held_seed', 'expand', 'choose_width', 'sensor_position'];
+const CALLS = ['key_length', 'deal', 'check_key', 'open_one', 'open_all', 'draw_card', 'write_page', 'join_shares',
+    'join_keys', 'held_seed', 'expand', 'choose_width', 'sensor_position'];
 
 /**
  * Makes the operations from the WebAssembly module. The source may be
@@ -175,9 +180,8 @@ function numbersIn(written) {
     return Array.from({ length: written.length / NUMBER_BYTES }, (_, place) => view.getUint32(place * NUMBER_BYTES, true));
 }
 
-/** Where the module says that a bad column stands. */
-function placeIn(fault) {
-    const [gridRow, column] = numbersIn(fault);
+/** What the module tells of a bad column: where it stands. */
+function placeOf([gridRow, column]) {
     return { gridRow, column };
 }
 
@@ -294,6 +298,29 @@ export class Nosingginger {
     }
 
     /**
+     * WRITE PAGE: an opened table as a page to be pinned up, in lines of eight squares. A line is its first position in
+     * five places, right-aligned; for each square a space and 2 × valueBytes upper-case hexadecimal digits, byte 0
+     * first, or as many spaces where the board has no such square; and a line feed. So every line has
+     * 6 + 8 × (2 × valueBytes + 1) characters, and the digits of position a begin at character
+     * 6 + (a % 8) × (2 × valueBytes + 1) of line ⌊a / 8⌋, both from 0 on. Refusals: 2; 4; 7 where the table is not
+     * positions × valueBytes bytes.
+     * @param {number} positions
+     * @param {number} valueBytes
+     * @param {Uint8Array} table as openAll and joinKeys give it
+     * @returns {string} the page, in ASCII
+     */
+    writePage(positions, valueBytes, table) {
+        u32(positions, 'positions');
+        u32(valueBytes, 'valueBytes');
+        // A longer table than there is is refused: what it has past that is not copied.
+        const inputs = [bytes(table, 'table').subarray(0, MOST_POSITIONS * MOST_VALUE_BYTES + 1)];
+        const page = new Uint8Array(pageBytes(positions, valueBytes));
+        const [written] = this.#write(inputs, page, (lent, output, [told]) =>
+            this.#calls.write_page(positions, valueBytes, ...lent, ...output, told));
+        return new TextDecoder().decode(page.subarray(0, written));
+    }
+
+    /**
      * JOIN SHARES: the XOR of all players' shares, or of their answers of drawCard. Refusals: 1; 4 where valueBytes is
      * not 1 to 256; 7; 9.
      * @param {{ players: number, valueBytes: number, shares: Uint8Array }} given the shares one after another
@@ -405,19 +432,21 @@ export class Nosingginger {
     }
 
     /**
-     * Runs a call that writes to a lent output; the output comes back as the module left it, whatever the answer. Beside it the call is given
-     * room for the place of a bad column.
+     * Runs a call that writes to a lent output; the output comes back as the module left it, whatever the answer. Beside
+     * it the call is given room for numbers that it tells, which are answered.
      */
     #write(inputs, output, call) {
-        const fault = roomFor(FAULT_NUMBERS);
-        const outputs = [bytes(output, 'out'), fault];
+        const told = roomFor(TOLD_NUMBERS);
+        const outputs = [bytes(output, 'out'), told];
         const refusal = this.#lend([...inputs, ...outputs], (lent) => {
             const places = lent.slice(inputs.length);
             const answer = call(lent.slice(0, inputs.length).flat(), ...places) >>> 0;
             outputs.forEach((slice, index) => slice.set(new Uint8Array(this.#memory.buffer, places[index][0], slice.length)));
             return answer;
         });
-        if (refusal !== 0) throw new Refused(refusal, COLUMN_REFUSALS.includes(refusal) ? placeIn(fault) : undefined);
+        const numbers = numbersIn(told);
+        if (refusal !== 0) throw new Refused(refusal, COLUMN_REFUSALS.includes(refusal) ? placeOf(numbers) : undefined);
+        return numbers;
     }
 
     /** Copies slices behind the module's own memory, runs a call on their places and lengths, and wipes the copies. */
@@ -429,7 +458,7 @@ export class Nosingginger {
             return place;
         });
         const missing = end - this.#memory.buffer.byteLength;
-        if (missing > 0) this.#memory.grow(Math.ceil(missing / PAGE_BYTES));
+        if (missing > 0) this.#memory.grow(Math.ceil(missing / MEMORY_PAGE_BYTES));
         const memory = new Uint8Array(this.#memory.buffer);
         try {
             slices.forEach((slice, index) => memory.set(slice, places[index]));
@@ -442,4 +471,10 @@ export class Nosingginger {
 
 function tableBytes({ positions, valueBytes }) {
     return positions * valueBytes;
+}
+
+/** The bytes of a board's page; 0 where there is no such board, which is refused and needs no room. */
+function pageBytes(positions, valueBytes) {
+    if (positions > MOST_POSITIONS || valueBytes > MOST_VALUE_BYTES) return 0;
+    return Math.ceil(positions / SQUARES_IN_A_LINE) * (6 + SQUARES_IN_A_LINE * (2 * valueBytes + 1));
 }

@@ -73,7 +73,7 @@ test('a refusal has the fields that are declared, and a place where one is', () 
 test('a call has as many parameters as are declared', () => {
     const body = /^export class Nosingginger \{\n(.*?)^\}$/ms.exec(text('nosingginger.d.ts'))[1];
     const methods = [...body.matchAll(/^ {4}(\w+)\((.*)\): /gm)];
-    assert.equal(methods.length, 12);
+    assert.equal(methods.length, 13);
     for (const [, name, parameters] of methods) {
         const many = parameters.replace(/\{.*?\}/g, '').split(',').length;
         assert.equal(Nosingginger.prototype[name].length, many, name);
@@ -110,6 +110,25 @@ test('README.md\u2019s draw of a card runs in an app', async () => {
     assert.equal((await runInApp('draw.mjs', program)).trimEnd(), promised);
     const other = program.replace('cardDealing(board, 2)', 'cardDealing(board, 1)');
     assert.equal((await runInApp('other.mjs', other)).trimEnd(), 'owl');
+});
+
+test('README.md\u2019s board on a page runs in an app, and the piece is read back from it', async () => {
+    const program = shown('js page');
+    const [, count, length] = /\/\/ (\w+) lines of (\d+) characters$/m.exec(program);
+    assert.equal(count, 'nine');
+    for (let times = 0; times < 3; times += 1) {
+        const lines = (await runInApp('page.mjs', program)).split('\n');
+        const [point, value] = lines[10].split(' ');
+        const squares = lines.slice(0, 9).flatMap((line, place) => {
+            assert.equal(line.length + 1, Number(length));
+            const [first, ...eight] = line.trimStart().split(' ');
+            assert.deepEqual([Number(first), eight.length], [8 * place, 8]);
+            return eight;
+        });
+        assert.deepEqual(squares, squares.map((_, position) => (position === Number(point) ? value : '0000')));
+        assert.match(value, /^(?!0000)[0-9A-F]{4}$/);
+        assert.deepEqual(lines.slice(9), ['', lines[10], '']);
+    }
 });
 
 test('load in node: nothing, URLs, paths from the folder that the program was started in', async () => {

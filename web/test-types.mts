@@ -24,6 +24,8 @@ export function called(nosingginger: Nosingginger, bytes: Uint8Array): RefusalNu
         nosingginger.drawCard(keys, bytes, 32), nosingginger.drawCard(keys, bytes, 256, bytes),
         nosingginger.deal(cardDealing(board, 5, systemBytes)),
         cardDealing({ players: 2, positions: 6, width: 4 }, 5).value];
+    const page: string = nosingginger.writePage(board.positions, board.valueBytes, nosingginger.joinKeys(keys));
+    console.log(page.split('\n').length);
     try {
         nosingginger.keyLength({ ...header, positions: nosingginger.sensorPosition(answers.length) });
         return undefined;
@@ -98,6 +100,16 @@ export async function refused(nosingginger: Nosingginger, bytes: Uint8Array, boa
     nosingginger.drawCard(bytes, [bytes, bytes], 32);
     // @ts-expect-error an output is bytes
     nosingginger.drawCard(bytes, bytes, 32, 32);
+    // @ts-expect-error a page has a table
+    nosingginger.writePage(72, 1);
+    // @ts-expect-error which is bytes
+    nosingginger.writePage(72, 1, '00');
+    // @ts-expect-error a board's numbers stand one by one
+    nosingginger.writePage(board, bytes);
+    // @ts-expect-error no output is lent to it
+    nosingginger.writePage(72, 1, bytes, bytes);
+    // @ts-expect-error and a page is text
+    nosingginger.checkKey(nosingginger.writePage(72, 1, bytes));
     // @ts-expect-error a card is asked for
     cardDealing(board);
     // @ts-expect-error expand has no length to make an output of

@@ -1,6 +1,6 @@
 // Tests of nosingginger.mjs in node: every call, every refusal, the place of a bad column, the printed deal, what is
-// left of a lent output, whole draws of cards, the largest table and the largest deck, the memory's growth, the second
-// implementation's answers, drawn dealings and the example. Assumes that targets/build has run.
+// left of a lent output, whole draws of cards, boards' pages, the largest table, deck and page, the memory's growth, the
+// second implementation's answers, drawn dealings and the example. Assumes that targets/build has run.
 import assert from 'node:assert/strict';
 import { execFileSync } from 'node:child_process';
 import { readFileSync, readdirSync } from 'node:fs';
@@ -44,7 +44,7 @@ test('the module has no imports and all calls', () => {
     const module = new WebAssembly.Module(moduleBytes);
     assert.deepEqual(WebAssembly.Module.imports(module), []);
     const names = WebAssembly.Module.exports(module).map(({ name }) => name).filter((name) => name.startsWith('nsg_'));
-    assert.equal(names.length, 12);
+    assert.equal(names.length, 13);
 });
 
 test('it is made from bytes, a module, a place and base64', async () => {
@@ -298,12 +298,17 @@ test('deal: arrays with some bytes drawn at random', () => {
     for (const number of [0, 18, 19, 20]) assert.ok(tried.get(number) > 50, `${number}: ${tried.get(number)} times`);
 });
 
-/** The operations over the module with another Deal in it, and the module's memory. The other Deal is given the module's own and what it is lent. */
-function withDeal(deal) {
+/**
+ * The operations over the module with another call of this name in it, and the module's memory. The other call is given
+ * the module's own and what it is lent.
+ */
+function withCall(name, call) {
     const { exports } = new WebAssembly.Instance(new WebAssembly.Module(moduleBytes));
-    const own = new Nosingginger({ exports: { ...exports, nsg_deal: (...lent) => deal(exports.nsg_deal, lent, exports.memory) } });
+    const own = new Nosingginger({ exports: { ...exports, [name]: (...lent) => call(exports[name], lent, exports.memory) } });
     return { own, memory: exports.memory };
 }
+
+const withDeal = (deal) => withCall('nsg_deal', deal);
 
 test('deal: the place is lent eight bytes of its own, and is told with 18, 19 and 20 alone', () => {
     const given = printedDeal();
@@ -556,7 +561,7 @@ test('bytes whose memory was handed on to a worker are no bytes, and what was le
     const lent = filled(60);
     for (const call of [() => own.drawCard(gone, filled(60), 10, lent), () => own.drawCard(key, gone, 10, lent),
         () => own.drawCard(key, filled(60), 10, gone), () => own.openAll(key, gone), () => own.openAll(gone, lent),
-        () => own.deal({ ...printedDeal(), words: gone }, lent)]) {
+        () => own.deal({ ...printedDeal(), words: gone }, lent), () => own.writePage(60, 1, gone)]) {
         assert.throws(call, TypeError);
         assert.deepEqual(lent, filled(60));
         assert.ok(new Uint8Array(memory.buffer, start).every((byte) => byte === 0));
@@ -589,6 +594,130 @@ test('the largest deck: the memory grows to it once, holds nothing afterwards, a
     assert.ok(grown > start + most && grown < start + most + 2 ** 17, `${start} bytes grew to ${grown}`);
     const [small] = cardKeys([2, 1, 1], 0, sameEachTime(1));
     refused(22, () => own.drawCard(small, new Uint8Array(2 ** 27), 1));
+    assert.equal(memory.buffer.byteLength, grown);
+    assert.ok(Buffer.from(memory.buffer, start).every((byte) => byte === 0));
+});
+
+/** A page as it is defined, square by square. */
+function pageOf(positions, valueBytes, table) {
+    let page = '';
+    for (let position = 0; position % 8 !== 0 || position < positions; position += 1) {
+        if (position % 8 === 0) page += `${' '.repeat(5 - String(position).length)}${position}`;
+        page += ' ';
+        for (let at = position * valueBytes; at < (position + 1) * valueBytes; at += 1) {
+            page += position < positions ? '0123456789ABCDEF'[table[at] >> 4] + '0123456789ABCDEF'[table[at] % 16] : '  ';
+        }
+        if (position % 8 === 7) page += '\n';
+    }
+    return page;
+}
+
+test('write page: lines that were written by hand', () => {
+    const counted = Uint8Array.from({ length: 72 }, (_, position) => position);
+    assert.equal(nosingginger.writePage(10, 1, counted.subarray(0, 10)),
+        '    0 00 01 02 03 04 05 06 07\n    8 08 09                  \n');
+    const spring = nosingginger.writePage(72, 1, counted).split('\n');
+    assert.deepEqual(spring.map((line) => line.length), [29, 29, 29, 29, 29, 29, 29, 29, 29, 0]);
+    assert.equal(spring[8], '   64 40 41 42 43 44 45 46 47');
+    assert.equal(nosingginger.writePage(2, 3, Uint8Array.of(0xC0, 0xFF, 0xEE, 0x0A, 0xB0, 0x9F)),
+        `    0 C0FFEE 0AB09F${' '.repeat(6 * 7)}\n`);
+    assert.equal(nosingginger.writePage(1, 1, Uint8Array.of(0)), `    0 00${' '.repeat(21)}\n`);
+});
+
+test('write page: every number of value bytes, and every number of squares in the last line', () => {
+    for (let valueBytes = 1; valueBytes <= 16; valueBytes += 1) {
+        for (const positions of [1, 2, 3, 4, 5, 6, 7, 8, 9, 10, 15, 16, 17, 72, 97, 104, 105, 255, 256, 257, 1000, 1001]) {
+            const table = sameEachTime(positions * 17 + valueBytes)(positions * valueBytes);
+            const page = nosingginger.writePage(positions, valueBytes, table);
+            assert.equal(page, pageOf(positions, valueBytes, table), `${positions} squares of ${valueBytes} bytes`);
+            // A square is found by its line and column alone.
+            const line = 6 + 8 * (2 * valueBytes + 1);
+            assert.equal(page.length, Math.ceil(positions / 8) * line);
+            for (let position = 0; position < positions; position += 1) {
+                const at = Math.floor(position / 8) * line + 6 + (position % 8) * (2 * valueBytes + 1);
+                assert.deepEqual(new Uint8Array(Buffer.from(page.slice(at, at + 2 * valueBytes), 'hex')),
+                    table.subarray(position * valueBytes, (position + 1) * valueBytes));
+            }
+        }
+    }
+    for (const positions of [9992, 10000, 10001, 65528, 65529, 65535]) {
+        const table = sameEachTime(positions)(positions);
+        assert.equal(nosingginger.writePage(positions, 1, table), pageOf(positions, 1, table));
+    }
+});
+
+test('write page: refusals in their order, whatever the table', () => {
+    const tables = [0, 1, 15, 16, 17, 72, 1152, 65537, 1048576, 1048577].map(filled);
+    for (const table of tables) {
+        for (const positions of [0, 65537, 65538, 131072, 2 ** 31, 0xFFFFFFFF]) {
+            for (const valueBytes of [0, 1, 16, 17, 0xFFFFFFFF]) {
+                refused(2, () => nosingginger.writePage(positions, valueBytes, table), table);
+            }
+        }
+        for (const positions of [1, 72, 65536]) {
+            for (const valueBytes of [0, 17, 18, 256, 2 ** 31, 0xFFFFFFFF]) {
+                refused(4, () => nosingginger.writePage(positions, valueBytes, table), table);
+            }
+        }
+    }
+    for (const [positions, valueBytes] of [[1, 1], [72, 1], [9, 16], [65536, 1], [65536, 16]]) {
+        const long = positions * valueBytes;
+        for (const length of [0, 1, long - 1, long + 1, long + valueBytes + 1, 2 * long].filter((other) => other !== long)) {
+            const table = filled(length);
+            refused(7, () => nosingginger.writePage(positions, valueBytes, table), table);
+        }
+    }
+    // Also a table whose length is right where N × w is cut to 32 bits.
+    refused(2, () => nosingginger.writePage(2 ** 28 + 1, 16, filled(16)));
+    refused(4, () => nosingginger.writePage(16, 2 ** 28 + 1, filled(16)));
+});
+
+test('write page: the table may be a part of a longer array, and is left as it was', () => {
+    const around = sameEachTime(74)(74);
+    const table = around.slice(1, 73);
+    assert.equal(nosingginger.writePage(72, 1, around.subarray(1, 73)), pageOf(72, 1, table));
+    assert.deepEqual(around, sameEachTime(74)(74));
+});
+
+test('write page: the number is lent a place of its own, and tells how much of the output is the page', () => {
+    let answer = 0;
+    const { own } = withCall('nsg_write_page', (_, [positions, valueBytes, table, tableBytes, page, pageBytes, written], memory) => {
+        assert.deepEqual([positions, valueBytes, tableBytes, pageBytes], [9, 2, 18n, 92n]);
+        assert.equal(written % 4, 0);
+        for (const [place, length] of [[table, 18], [page, 92]]) {
+            assert.ok(written >= place + length || written + 4 <= place);
+        }
+        new Uint8Array(memory.buffer, page, 92).fill(0x41);
+        new DataView(memory.buffer).setUint32(written, 46, true);
+        return answer;
+    });
+    assert.equal(own.writePage(9, 2, filled(18)), 'A'.repeat(46));
+    for (const { number } of REFUSALS) {
+        answer = number;
+        const place = [18, 19, 20].includes(number) ? { gridRow: 46, column: 0 } : null;
+        refusedAt(number, place, () => own.writePage(9, 2, filled(18)));
+    }
+});
+
+test('the largest page: the memory grows to it once, holds nothing afterwards, and not to a longer table', () => {
+    const instance = new WebAssembly.Instance(new WebAssembly.Module(moduleBytes));
+    const { memory } = instance.exports;
+    const own = new Nosingginger(instance);
+    const start = memory.buffer.byteLength;
+    // Refusals need no room for a page.
+    for (const [positions, valueBytes] of [[0xFFFFFFFF, 16], [65536, 0xFFFFFFFF], [65537, 16], [65536, 17]]) {
+        assert.throws(() => own.writePage(positions, valueBytes, filled(10)), Refused);
+    }
+    assert.ok(memory.buffer.byteLength <= start + 2 ** 16);
+    const table = sameEachTime(16)(1048576);
+    const page = own.writePage(65536, 16, table);
+    assert.equal(page.length, 2211840);
+    assert.equal(page, pageOf(65536, 16, table));
+    const grown = memory.buffer.byteLength;
+    const needed = start + 1048576 + 2211840;
+    assert.ok(grown > needed && grown < needed + 2 ** 17, `${start} bytes grew to ${grown}`);
+    refused(7, () => own.writePage(65536, 16, new Uint8Array(2 ** 26)));
+    assert.equal(own.writePage(65536, 16, table), page);
     assert.equal(memory.buffer.byteLength, grown);
     assert.ok(Buffer.from(memory.buffer, start).every((byte) => byte === 0));
 });
@@ -659,6 +788,13 @@ test('numbers that 32 bits cannot hold and things that are no bytes are the call
         assert.throws(() => nosingginger.drawCard(key, filled(6), cardBytes, lent), RangeError);
         assert.deepEqual(lent, filled(6));
     }
+    for (const other of [undefined, null, [1, 2], new ArrayBuffer(6), new Uint16Array(6), '00', 1]) {
+        assert.throws(() => nosingginger.writePage(6, 1, other), TypeError);
+    }
+    for (const number of [-1, 1.5, 2 ** 32, 2 ** 32 + 6, NaN, '6', 6n, undefined]) {
+        assert.throws(() => nosingginger.writePage(number, 1, filled(6)), RangeError);
+        assert.throws(() => nosingginger.writePage(6, number, filled(6)), RangeError);
+    }
     // Expand without a start, and with one that is no number of 64 bits, or a number that is not exact.
     assert.throws(() => nosingginger.expand(new Uint8Array(32), filled(32)), TypeError);
     for (const start of [-1, 0.5, 2 ** 53, 2 ** 64, -1n, 2n ** 64n, NaN, Infinity, '0', null, undefined]) {
@@ -726,7 +862,15 @@ const OPERATIONS = {
     10: ([players, positions]) => [[nosingginger.chooseWidth({ players, positions })]],
     11: ([sensor]) => [[nosingginger.sensorPosition(sensor)]],
     14: ([cardBytes], [key, deck], out) => [[], nosingginger.drawCard(key, deck, cardBytes, out)],
+    15: ([positions, valueBytes], [table]) => {
+        const page = new TextEncoder().encode(nosingginger.writePage(positions, valueBytes, table));
+        return [[page.length], page];
+    },
 };
+// Held seed writes nothing, and a page is answered as text: these leave a lent output alone. Nor is a page's ever too
+// short.
+const [HELD_SEED, WRITE_PAGE, REFUSED_ROOM] = [8, 15, 9];
+const WITHOUT_OUTPUT = [HELD_SEED, WRITE_PAGE];
 
 test('the second implementation\u2019s answers, all cases of the operations', () => {
     const file = readFileSync(new URL('crates/test_compare/data/cases.bin', root));
@@ -755,8 +899,12 @@ test('the second implementation\u2019s answers, all cases of the operations', ()
             const [numbers, written = new Uint8Array(0)] = OPERATIONS[operation](into, inputs, lent);
             assert.deepEqual([...numbers, 0, 0, 0, 0, 0].slice(0, 5), outOf, `numbers of case ${place}`);
             assert.ok(Buffer.from(written).equals(answer), `bytes of case ${place}`);
-            const left = (index) => (operation !== 8 && index < answer.length ? answer[index] : fill);
+            const isWritten = !WITHOUT_OUTPUT.includes(operation);
+            const left = (index) => (isWritten && index < answer.length ? answer[index] : fill);
             assert.ok(lent.every((byte, index) => byte === left(index)), `output of case ${place}`);
+        } else if (operation === WRITE_PAGE && number === REFUSED_ROOM) {
+            const [[length]] = OPERATIONS[operation](into, inputs);
+            assert.ok(length > lentBytes, `output of case ${place}`);
         } else {
             // A refusal has no numbers but the place of a bad column: 1, the grid row and the column.
             const [isPlaced, gridRow, column] = outOf;
