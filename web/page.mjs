@@ -5,6 +5,7 @@ import { fingerprint } from './fingerprint.mjs';
 import { answerOf, examine, hexadecimal, joinedWords, joinTables, keysApart, keysOfFile, keysOfText, listed, marked, matchText, MOST_FILE_BYTES,
     printedDeal, sentence, squareWords, together } from './match.mjs';
 import { boardGrid, isShownWhole, partOf, shownAtOnce, squareAfter, squareIn } from './board.mjs';
+import { clearPaper, putOnPaper } from './paper.mjs';
 import { capital, element, make, say, shape } from './elements.mjs';
 import { WORDS } from './words.mjs';
 
@@ -99,13 +100,14 @@ function keyLine(key) {
         ...(words === null ? [] : [' ', make('span', { className: 'wrong' }, capital(words))])];
 }
 
+function boardWords({ players, positions, valueBytes }) {
+    return `${WORDS.numbers[players]} players, ${counted(positions, 'square')}, values of ${counted(valueBytes, 'byte')}`;
+}
+
 function keyItem(key) {
     const { id, header, refusal, bytes, from, fingerprint: print } = key;
     const numbers = [['Fingerprint (SHA-256)', print], ['Length', counted(bytes.length, 'byte')]];
-    if (header !== null) {
-        const [players, squares] = [WORDS.numbers[header.players], counted(header.positions, 'square')];
-        numbers.push(['Board', `${players} players, ${squares}, values of ${counted(header.valueBytes, 'byte')}`], ['Grid', `${header.width} wide`]);
-    }
+    if (header !== null) numbers.push(['Board', boardWords(header)], ['Grid', `${header.width} wide`]);
     return make('li', { className: isRival(key) ? 'conflict' : key.state }, make('details', { aria: { 'data-key': id } },
         make('summary', {}, ...keyLine(key)),
         ...(refusal === null ? [] : [make('p', { className: 'note-line' }, refusalWords(refusal))]),
@@ -214,6 +216,7 @@ function show() {
     showBoards();
     showShares();
     showFingerprints();
+    showPaper();
 }
 
 /** The one sentence that a reader came for, and what has to stand beside it. */
@@ -261,7 +264,6 @@ function showBoards() {
     element('board-part').hidden = joined === null;
     element('clear').hidden = state.aside !== null;
     element('save').hidden = joined === null;
-    element('print').hidden = joined === null;
     if (board === null) return;
     element('sensors-switch').hidden = board.positions !== SENSORS;
     element('pages').hidden = isShownWhole(board);
@@ -345,6 +347,18 @@ function showFingerprints() {
         make('caption', {}, 'Fingerprints of the keys (SHA-256)'), make('tbody', {}, ...rows)));
 }
 
+/** The joined board as the library writes it on a page. */
+function boardPage() {
+    const { board, joined } = state.found;
+    return library.writePage(board.positions, board.valueBytes, joined);
+}
+
+function showPaper() {
+    const { board, joined } = state.found;
+    if (joined === null) clearPaper();
+    else putOnPaper(boardPage(), board, state.pieces.length === 1 ? state.pieces[0] : null, capital(boardWords(board)));
+}
+
 // ---- what a reader does ----
 
 /** Takes in what was found somewhere; what could not be read stands beside the answer, or where keys are given while there is none. */
@@ -400,9 +414,8 @@ function springBoard(players) {
     return randomDealing(board);
 }
 
-function save() {
-    const text = matchText(state.found.players.map(({ bytes }) => bytes));
-    const link = make('a', { href: URL.createObjectURL(new Blob([text], { type: 'text/plain' })), download: 'match.txt' });
+function save(name, text) {
+    const link = make('a', { href: URL.createObjectURL(new Blob([text], { type: 'text/plain' })), download: name });
     link.click();
     setTimeout(() => URL.revokeObjectURL(link.href), 60000);
 }
@@ -463,7 +476,8 @@ element('leave-example').addEventListener('click', () => {
     keysChanged();
     (state.keys.length > 0 ? element('answer') : element('spring')).focus();
 });
-element('save').addEventListener('click', save);
+element('save').addEventListener('click', () => save('match.txt', matchText(state.found.players.map(({ bytes }) => bytes))));
+element('save-board').addEventListener('click', () => save('board.txt', boardPage()));
 element('print').addEventListener('click', () => window.print());
 element('clear').addEventListener('click', () => {
     state.keys = [];

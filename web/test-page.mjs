@@ -1,13 +1,16 @@
 // Tests of the built page in a headless Chromium, as a club's players use it: the empty page, examples, each way to give keys, keys missing, damaged,
-// changed, of two dealings, of two boards, large boards, keyboard, screen reader, paper, light and dark, a phone's window. What is shown is held
-// against the answers of nosingginger.mjs in node. Pictures go to target/web/pictures; KEEP_PICTURE makes one of them README's, which carries a digest of
-// the page's sources so that an old one is noticed. Assumes that web/build has run.
+// changed, of two dealings, of two boards, large boards, keyboard, screen reader, the board saved and printed, light and dark, a phone's window. What is
+// shown is held against the answers of nosingginger.mjs in node, and a board's page against one that is worked out here. What is printed is read from the
+// PDF by pdftotext. Pictures go to target/web/pictures; KEEP_PICTURE makes one of them README's, which carries a digest of the page's sources so that an
+// old one is noticed. Assumes that web/build has run, and poppler's pdftotext.
 import assert from 'node:assert/strict';
+import { execFileSync } from 'node:child_process';
 import { existsSync, mkdirSync, readFileSync, rmSync, writeFileSync } from 'node:fs';
 import { after, test } from 'node:test';
 import { fileURLToPath } from 'node:url';
 import { openBrowser } from './chromium.mjs';
 import { randomDealing } from './draw.mjs';
+import { pageOf } from './expected.mjs';
 import { fingerprint } from './fingerprint.mjs';
 import { hexadecimal, joinTables, keysApart, keysOfText, matchText, printedDeal, sentence, squareWords } from './match.mjs';
 import { load, REFUSALS } from './nosingginger.mjs';
@@ -457,16 +460,18 @@ onPage('a drawn spring board has one piece', async (page) => {
     assert.ok(seen.size > 1);
 });
 
-/** Presses the button that saves, and waits for the file. */
-async function savedMatch(page) {
-    const saved = `${files}match.txt`;
+/** Presses a button that saves, and waits for the file. */
+async function savedBy(page, button, name) {
+    const saved = `${files}${name}`;
     rmSync(saved, { force: true });
     await browser.saveTo(files);
-    await page.click('#save');
+    await page.click(button);
     for (let times = 0; !existsSync(saved) && times < 200; times += 1) await new Promise((resolve) => { setTimeout(resolve, 25); });
     page.requests.splice(1);
     return saved;
 }
+
+const savedMatch = (page) => savedBy(page, '#save', 'match.txt');
 
 onPage('a match is saved as text, and that text is the match', async (page) => {
     const keys = springKeys(5);
@@ -487,19 +492,198 @@ onPage('README\u2019s first minute: deal a spring board, save it, close the exam
     assert.deepEqual((await keyLines(page)).map((line) => line.slice(-5)), prints);
 });
 
-onPage('on paper: the answer, the board and every fingerprint whole', async (page) => {
-    const keys = springKeys(3);
+/** A dealing of a board of so many players, squares and bytes of a value, the same each time. */
+function drawnDealing(players, positions, valueBytes) {
+    const width = library.chooseWidth({ players, positions });
+    return randomDealing({ players, positions, width, valueBytes }, sameEachTime(positions + valueBytes));
+}
+
+/** The page of the board that a dealing's keys join to. */
+function pageOfDealing(dealing) {
+    return pageOf(dealing.positions, dealing.valueBytes, joinedTable(dealing));
+}
+
+onPage('the joined board is saved as text: the board\u2019s page, byte for byte', async (page) => {
+    for (const [players, positions, valueBytes] of [[4, 72, 1], [2, 6, 1], [3, 10, 2], [4, 77, 16], [2, 65536, 1]]) {
+        const dealing = drawnDealing(players, positions, valueBytes);
+        await give(page, [stored('saved.keys', library.deal(dealing))], players);
+        const saved = readFileSync(await savedBy(page, '#save-board', 'board.txt'));
+        assert.ok(saved.equals(Buffer.from(pageOfDealing(dealing))), `${positions} squares of ${valueBytes} bytes`);
+        await page.click('#clear');
+    }
+    // A board that is no success is saved as it is.
+    const keys = springKeys(4).map((key, player) => (player === 3 ? springKeys(4, 77)[3] : key));
+    await give(page, keys.map((key, player) => stored(`player-${player}.key`, key)), 4);
+    const saved = readFileSync(await savedBy(page, '#save-board', 'board.txt'), 'utf8');
+    assert.equal(saved, pageOf(72, 1, library.joinKeys(Buffer.concat(keys))));
+    assert.equal(saved.length, 9 * 30);
+    // Where nothing is joined there is nothing to be saved.
+    await page.click('#clear');
+    await give(page, [stored('player-0.key', keys[0])], 4);
+    for (const button of ['#save-board', '#print']) assert.equal(await isShown(page, button), false);
+});
+
+const MILLIMETRES = { A4: [210, 297], A5: [148, 210], Letter: [215.9, 279.4] };
+const MARGIN = 12;
+const points = (millimetres) => millimetres / 25.4 * 72;
+
+/** Prints the page, and answers the sheets: each its size, and its words with their places, in points. */
+async function printed(page, name, paper = 'A4') {
+    const [paperWidth, paperHeight] = MILLIMETRES[paper].map((size) => size / 25.4);
+    const { data } = await page.send('Page.printToPDF', { paperWidth, paperHeight, printBackground: true });
+    const file = stored(`${name}.pdf`, Buffer.from(data, 'base64'));
+    const found = execFileSync('pdftotext', ['-bbox', file, '-'], { encoding: 'utf8', maxBuffer: 2 ** 28 });
+    return found.split('<page ').slice(1).map((sheet) => {
+        const [, width, height] = /^width="([\d.]+)" height="([\d.]+)"/.exec(sheet);
+        const words = [...sheet.matchAll(/<word xMin="([\d.-]+)" yMin="([\d.-]+)" xMax="([\d.-]+)" yMax="([\d.-]+)">(.*?)<\/word>/g)]
+            .map(([, left, top, right, bottom, text]) =>
+                ({ left: Number(left), top: Number(top), right: Number(right), bottom: Number(bottom), text }));
+        return { width: Number(width), height: Number(height), words };
+    });
+}
+
+/** The lines of a board's page on a sheet, each as its words: those below the line that counts the columns. */
+function linesBelow(words, valueBytes) {
+    const start = words.findIndex(({ text }) => text === 'first');
+    const columns = words.slice(start, start + 9);
+    assert.deepEqual(columns.map(({ text }) => text), ['first', '+0', '+1', '+2', '+3', '+4', '+5', '+6', '+7']);
+    const digits = new RegExp(`^[0-9A-F]{${2 * valueBytes}}$`);
+    const lines = [];
+    for (const word of words.slice(start + 9)) {
+        const line = lines.at(-1);
+        const isBeside = line !== undefined && Math.abs(word.top - line[0].top) < 1;
+        if (isBeside ? !digits.test(word.text) : !/^\d+$/.test(word.text)) break;
+        if (isBeside) line.push(word);
+        else lines.push([word]);
+    }
+    // Each square stands below what counts its column.
+    for (const [, ...squares] of lines) {
+        squares.forEach(({ left }, column) => assert.ok(Math.abs(left - columns[column + 1].left) < 1, `column ${column}`));
+    }
+    return lines;
+}
+
+/** The sheets have the whole page of a dealing's board in order, and nothing is cut off or runs into the margin. */
+function holdsBoard(sheets, dealing) {
+    const lines = [];
+    for (const { width, height, words } of sheets) {
+        const edge = points(MARGIN) - 1;
+        const outside = words.filter(({ left, top, right, bottom }) =>
+            left < edge || top < edge || right > width - edge || bottom > height - edge);
+        assert.deepEqual(outside, []);
+        if (words.some(({ text }) => text === 'first')) lines.push(...linesBelow(words, dealing.valueBytes));
+    }
+    const texts = lines.map((line) => line.map(({ text }) => text).join(' '));
+    assert.deepEqual(texts, pageOfDealing(dealing).trimEnd().split('\n').map((line) => line.trim()));
+    return lines;
+}
+
+const BOARDS_ON_PAPER = [
+    // players, squares, bytes of a value, paper; how many sheets there are at most, and whether they lie on their sides
+    [4, 72, 1, 'A4', 1, false], [6, 72, 1, 'A4', 1, false], [6, 72, 1, 'Letter', 1, false], [3, 72, 2, 'A5', 2, false],
+    [2, 6, 1, 'A4', 1, false], [4, 256, 1, 'A4', 1, false], [4, 77, 6, 'A4', 1, false], [4, 77, 7, 'A4', 1, true],
+    [4, 72, 16, 'A4', 1, true], [4, 72, 16, 'Letter', 1, true], [4, 72, 16, 'A5', 2, true],
+    [2, 65536, 1, 'A4', 150, false], [2, 65536, 16, 'A4', 150, true],
+];
+
+for (const [players, positions, valueBytes, paper, most, isSideways] of BOARDS_ON_PAPER) {
+    onPage(`on paper, ${paper}: ${positions} squares of ${valueBytes} bytes for ${players}, and nothing is cut off`, async (page) => {
+        const dealing = drawnDealing(players, positions, valueBytes);
+        const keys = keysApart(library, library.deal(dealing));
+        await give(page, [stored('paper.txt', matchText(keys))], players);
+        const sheets = await printed(page, `paper-${positions}-${valueBytes}-${paper}`, paper);
+        const lines = holdsBoard(sheets, dealing);
+        assert.ok(sheets.length <= most, `${sheets.length} sheets`);
+        const [short, long] = MILLIMETRES[paper].map(points);
+        for (const { width, height } of sheets) {
+            const [wanted, other] = isSideways ? [long, short] : [short, long];
+            assert.ok(Math.abs(width - wanted) < 1 && Math.abs(height - other) < 1, `${width} by ${height}`);
+        }
+        // What is read first: the answer, the board's numbers, how a square is found, and at the end the fingerprints.
+        const text = sheets.flatMap(({ words }) => words.map((word) => word.text)).join(' ');
+        const numbers = ['two', 'three', 'four', 'five', 'six'];
+        const squares = positions === 6 ? 'six' : positions.toLocaleString('en');
+        const value = valueBytes === 1 ? 'one byte' : `${{ 2: 'two', 6: 'six' }[valueBytes] ?? valueBytes} bytes`;
+        const column = dealing.point % 8;
+        for (const words of [pieceWords(dealing), sentence('caution'),
+            `${capital(numbers[players - 2])} players, ${squares} squares, values of ${value}`,
+            'A square is the number at the left of its line and the number above its column, added up.',
+            `The piece\u2019s is ${dealing.point - column} + ${column}, which is ${dealing.point}.`,
+            ...keys.map(fingerprint)]) assert.ok(text.includes(words), words);
+        // The type is as large as the line allows: it fills the sheet where values are long, and a few lines are large.
+        const [last] = lines[0].slice(-1);
+        if (valueBytes >= 6) assert.ok(last.right > sheets[0].width * 0.85, `the line ends at ${last.right}`);
+        if (positions === 72 && valueBytes === 1) assert.ok(last.bottom - last.top > 14, `${last.bottom - last.top} points high`);
+    });
+}
+
+onPage('on paper: the board\u2019s page in the place of buttons, fields and pictures, and the screen as it was afterwards', async (page) => {
+    const dealing = springDealing(3);
+    const keys = keysApart(library, library.deal(dealing));
     await give(page, [stored('match.txt', matchText(keys))], 3);
+    const paper = () => page.run(() => [document.getElementById('paper').getClientRects().length,
+        document.getElementById('paper-page').textContent, document.querySelector('#paper-page strong').textContent]);
+    assert.deepEqual(await paper(), [0, pageOfDealing(dealing), hexadecimal(dealing.value)]);
+    const screen = await page.run(() => document.body.innerText);
     await page.run(() => window.dispatchEvent(new Event('beforeprint')));
-    await page.send('Emulation.setEmulatedMedia', { media: 'print' });
-    for (const [selector, shown] of [['#answer', true], ['#caution', true], ['#joined', true], ['#fingerprint-table', true], ['.tools', false], ['#intake', false],
-        ['#keys', false], ['#proved-part', false]]) assert.equal(await isShown(page, selector), shown, selector);
+    await page.send('Emulation.setEmulatedMedia', { media: 'print', features: [{ name: 'prefers-color-scheme', value: 'dark' }] });
+    assert.deepEqual(await paper(), [1, pageOfDealing(dealing), hexadecimal(dealing.value)]);
+    for (const [selector, shown] of [['#answer', true], ['#caution', true], ['#paper', true], ['#fingerprint-table', true], ['#joined', false],
+        ['.tools', false], ['#intake', false], ['#keys', false], ['#proved-part', false]]) assert.equal(await isShown(page, selector), shown, selector);
+    assert.deepEqual(await page.run(() => [...document.querySelectorAll('button, input, textarea, summary, svg:not(.mark svg)')]
+        .filter((control) => control.checkVisibility()).map((control) => control.id || control.outerHTML)), []);
+    // Dark ink on white, also for a reader whose screen is dark.
+    const grounds = await page.run(() => [...document.querySelectorAll('html, body, body *')].filter((found) => found.checkVisibility())
+        .map((found) => getComputedStyle(found).backgroundColor));
+    assert.deepEqual([...new Set(grounds)].sort(), ['rgb(255, 255, 255)', 'rgba(0, 0, 0, 0)']);
+    const found = await page.run(contrasts);
+    assert.deepEqual(found.filter(([, contrast]) => contrast < 4.5), []);
     for (const key of keys) assert.ok((await page.run(() => document.body.innerText)).includes(fingerprint(key)));
     await page.screenshot(`${pictures}paper.png`);
     await page.run(() => window.dispatchEvent(new Event('afterprint')));
+    await page.send('Emulation.setEmulatedMedia', { media: '', features: [{ name: 'prefers-color-scheme', value: 'light' }] });
+    assert.equal(await page.run(() => document.body.innerText), screen);
     assert.equal(await page.run(() => document.getElementById('fingerprints').open), false);
-    const { data } = await page.send('Page.printToPDF', {});
-    assert.equal((Buffer.from(data, 'base64').toString('latin1').match(/\/Type\s*\/Page\b/g) ?? []).length, 1);
+}, { ...DESK, scheme: 'dark' });
+
+onPage('on paper: several squares that are not zero are printed, and none looks like a piece', async (page) => {
+    const keys = springKeys(4).map((key, player) => (player === 3 ? springKeys(4, 77)[3] : key));
+    await give(page, keys.map((key, player) => stored(`player-${player}.key`, key)), 4);
+    const [sheet, ...others] = await printed(page, 'paper-several');
+    assert.deepEqual(others, []);
+    const lines = linesBelow(sheet.words, 1).map((line) => line.map(({ text }) => text).join(' '));
+    const table = library.joinKeys(Buffer.concat(keys));
+    assert.deepEqual(lines, pageOf(72, 1, table).trimEnd().split('\n').map((line) => line.trim()));
+    const text = sheet.words.map((word) => word.text).join(' ');
+    assert.ok(text.includes(sentence('several', { count: table.filter((byte) => byte !== 0).length })));
+    assert.ok(!text.includes('The piece'));
+    assert.equal(await page.run(() => document.querySelectorAll('#paper-page strong').length), 0);
+});
+
+onPage('on paper without a joined board: what is there, and no board of an earlier match', async (page) => {
+    const text = async (name) => {
+        const sheets = await printed(page, name);
+        assert.equal(sheets.length, 1);
+        return sheets[0].words.map((word) => word.text).join(' ');
+    };
+    const shown = () => page.run(() => [...document.querySelectorAll('button, input, textarea')].filter((control) => control.checkVisibility()).length);
+    const empty = await text('paper-empty');
+    for (const words of ['Where did the piece lie?', 'What is a key?', 'Where do keys come from?']) assert.ok(empty.includes(words), words);
+    assert.ok(!empty.includes('first'));
+    const keys = springKeys(4);
+    await give(page, [stored('match.txt', matchText(keys))], 4);
+    assert.ok((await text('paper-joined')).includes('first +0'));
+    await page.run(() => document.querySelector('#keys summary').click());
+    await page.click('#keys li button');
+    assert.equal(await answer(page), 'Player 0\u2019s key is missing.');
+    const waiting = await text('paper-waiting');
+    for (const words of ['Player 0\u2019s key is missing.', 'The keys', 'Three of four keys are here.', 'Player 0 missing', ...keys.slice(1).map(fingerprint)]) {
+        assert.ok(waiting.includes(words), words);
+    }
+    assert.ok(!waiting.includes('first'));
+    assert.equal(await page.text('#paper-page'), '');
+    await page.send('Emulation.setEmulatedMedia', { media: 'print' });
+    assert.equal(await shown(), 0);
     await page.send('Emulation.setEmulatedMedia', { media: '' });
 });
 
@@ -555,8 +739,8 @@ onPage('by keyboard alone', async (page) => {
     await page.press('Enter');
     assert.equal(await focused(), 'answer');
     const lines = await keyLines(page);
-    assert.deepEqual(await tabbed(9), ['leave-example', 'Square 4 (line 0, column 4): value A5, the piece', ...lines, 'save', 'print',
-        'All fingerprints, whole', 'Give other keys', 'One square, key by key']);
+    assert.deepEqual(await tabbed(10), ['leave-example', 'Square 4 (line 0, column 4): value A5, the piece', 'save-board', 'print', ...lines,
+        'save', 'All fingerprints, whole', 'Give other keys', 'One square, key by key']);
     // In a board: arrows move, Enter chooses, and the board is one stop.
     await page.run(() => document.querySelector('#joined td[tabindex="0"]').focus());
     await page.press('ArrowLeft');

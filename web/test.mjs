@@ -8,6 +8,7 @@ import { test } from 'node:test';
 import { fileURLToPath } from 'node:url';
 import { load, loadBase64, Nosingginger, Refused, REFUSALS } from './nosingginger.mjs';
 import { cardDealing, randomDealing, systemBytes } from './draw.mjs';
+import { pageOf } from './expected.mjs';
 import { keysApart, marked, printedDeal } from './match.mjs';
 import { sameEachTime } from './random.mjs';
 
@@ -597,20 +598,6 @@ test('the largest deck: the memory grows to it once, holds nothing afterwards, a
     assert.equal(memory.buffer.byteLength, grown);
     assert.ok(Buffer.from(memory.buffer, start).every((byte) => byte === 0));
 });
-
-/** A page as it is defined, square by square. */
-function pageOf(positions, valueBytes, table) {
-    let page = '';
-    for (let position = 0; position % 8 !== 0 || position < positions; position += 1) {
-        if (position % 8 === 0) page += `${' '.repeat(5 - String(position).length)}${position}`;
-        page += ' ';
-        for (let at = position * valueBytes; at < (position + 1) * valueBytes; at += 1) {
-            page += position < positions ? '0123456789ABCDEF'[table[at] >> 4] + '0123456789ABCDEF'[table[at] % 16] : '  ';
-        }
-        if (position % 8 === 7) page += '\n';
-    }
-    return page;
-}
 
 test('write page: lines that were written by hand', () => {
     const counted = Uint8Array.from({ length: 72 }, (_, position) => position);
