@@ -5,6 +5,7 @@
      player card L          reads a key, in front of it a line with its length in bytes, and then a deck of cards of L
                             bytes; writes what this key's phone answers, in hexadecimal
      player shares P L      reads shares or answers of P players, L bytes each; writes their XOR in hexadecimal
+     player page N W        reads a table of N positions with values of W bytes; writes its page
      player length P N M W  writes the length of a key for P players, N positions, width M and values of W bytes
      player width P N       writes the grid's width for P players and N positions
      player expand START N  reads a seed; writes N bytes of its row in hexadecimal, from byte START on
@@ -16,7 +17,7 @@
 #include <stdlib.h>
 #include <string.h>
 
-static uint8_t input[NSG_MOST_KEYS_BYTES + 1], deck[NSG_MOST_DECK_BYTES + 1], output[NSG_MOST_TABLE_BYTES];
+static uint8_t input[NSG_MOST_KEYS_BYTES + 1], deck[NSG_MOST_DECK_BYTES + 1], output[NSG_MOST_PAGE_BYTES];
 
 static uint32_t number_of(const char *word)
 {
@@ -126,6 +127,17 @@ static int join_shares(uint32_t players, uint32_t share_bytes)
     return 0;
 }
 
+/* Of a table that is too long, more than the longest table is read, and refused. */
+static int write_page(uint32_t positions, uint32_t value_bytes)
+{
+    uint64_t length = fread(input, 1, sizeof input, stdin);
+    uint32_t written = 0;
+    uint32_t number = nsg_write_page(positions, value_bytes, input, length, output, sizeof output, &written);
+    if (number != NSG_ACCEPTED)
+        return refused(number);
+    return fwrite(output, 1, written, stdout) == written ? 0 : 2;
+}
+
 static int key_length(char **words)
 {
     uint32_t players = number_of(words[0]), positions = number_of(words[1]), width = number_of(words[2]), value_bytes = number_of(words[3]);
@@ -184,6 +196,8 @@ int main(int count, char **words)
         return draw_card(number_of(words[2]));
     if (count == 4 && strcmp(words[1], "shares") == 0)
         return join_shares(number_of(words[2]), number_of(words[3]));
+    if (count == 4 && strcmp(words[1], "page") == 0)
+        return write_page(number_of(words[2]), number_of(words[3]));
     if (count == 6 && strcmp(words[1], "length") == 0)
         return key_length(words + 2);
     if (count == 4 && strcmp(words[1], "width") == 0)
@@ -194,7 +208,7 @@ int main(int count, char **words)
         return sensor_position(number_of(words[2]));
     if (count == 2 && strcmp(words[1], "sensors") == 0)
         return sensors();
-    fprintf(stderr, "player: check | open | join | card L | shares P L | length P N M W | width P N | expand START N"
-                    " | sensor S | sensors\n");
+    fprintf(stderr, "player: check | open | join | card L | shares P L | page N W | length P N M W | width P N"
+                    " | expand START N | sensor S | sensors\n");
     return 2;
 }

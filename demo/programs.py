@@ -216,6 +216,11 @@ def player(words, given=b""):
     return run("player " + words[0], PLAYER, words, given).decode().split("\n")[:-1]
 
 
+def page(table, board):
+    """The page of a board's table, as text."""
+    return run("player page", PLAYER, ["page", str(board.positions), str(board.valueBytes)], table).decode("ascii")
+
+
 class Library:
     """The calls that match.py asks, each as its answer and None, or None and the refusal's number. Keys are checked by one player that stays,
     as there may be many of them."""
