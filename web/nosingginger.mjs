@@ -432,8 +432,8 @@ export class Nosingginger {
     }
 
     /**
-     * Runs a call that writes to a lent output; the output comes back as the module left it, whatever the answer. Beside
-     * it the call is given room for numbers that it tells, which are answered.
+     * Runs a call that writes to a lent output; the output comes back as the module left it, whatever the answer.
+     * Beside it the call is given room for numbers that it tells, which are answered.
      */
     #write(inputs, output, call) {
         const told = roomFor(TOLD_NUMBERS);

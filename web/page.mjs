@@ -101,7 +101,8 @@ function keyLine(key) {
 }
 
 function boardWords({ players, positions, valueBytes }) {
-    return `${WORDS.numbers[players]} players, ${counted(positions, 'square')}, values of ${counted(valueBytes, 'byte')}`;
+    const [squares, values] = [counted(positions, 'square'), counted(valueBytes, 'byte')];
+    return `${WORDS.numbers[players]} players, ${squares}, values of ${values}`;
 }
 
 function keyItem(key) {
@@ -414,10 +415,19 @@ function springBoard(players) {
     return randomDealing(board);
 }
 
+/** Gives a text to the reader as a file of this name. */
 function save(name, text) {
     const link = make('a', { href: URL.createObjectURL(new Blob([text], { type: 'text/plain' })), download: name });
     link.click();
     setTimeout(() => URL.revokeObjectURL(link.href), 60000);
+}
+
+function saveMatch() {
+    save('match.txt', matchText(state.found.players.map(({ bytes }) => bytes)));
+}
+
+function saveBoard() {
+    save('board.txt', boardPage());
 }
 
 function turnTo(first) {
@@ -476,8 +486,8 @@ element('leave-example').addEventListener('click', () => {
     keysChanged();
     (state.keys.length > 0 ? element('answer') : element('spring')).focus();
 });
-element('save').addEventListener('click', () => save('match.txt', matchText(state.found.players.map(({ bytes }) => bytes))));
-element('save-board').addEventListener('click', () => save('board.txt', boardPage()));
+element('save').addEventListener('click', saveMatch);
+element('save-board').addEventListener('click', saveBoard);
 element('print').addEventListener('click', () => window.print());
 element('clear').addEventListener('click', () => {
     state.keys = [];

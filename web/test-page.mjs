@@ -1,8 +1,9 @@
 // Tests of the built page in a headless Chromium, as a club's players use it: the empty page, examples, each way to give keys, keys missing, damaged,
-// changed, of two dealings, of two boards, large boards, keyboard, screen reader, the board saved and printed, light and dark, a phone's window. What is
-// shown is held against the answers of nosingginger.mjs in node, and a board's page against one that is worked out here. What is printed is read from the
-// PDF by pdftotext. Pictures go to target/web/pictures; KEEP_PICTURE makes one of them README's, which carries a digest of the page's sources so that an
-// old one is noticed. Assumes that web/build has run, and poppler's pdftotext.
+// changed, of two dealings, of two boards, large boards, keyboard, screen reader, the board saved and printed, light
+// and dark, a phone's window. What is shown is held against the answers of nosingginger.mjs in node, and a board's page
+// against one that is worked out apart from the library; what is printed is read from the PDF by pdftotext. Pictures go
+// to target/web/pictures; KEEP_PICTURE makes one of them README's, which carries a digest of the page's sources so that
+// an old one is noticed. Assumes that web/build has run, and poppler's pdftotext.
 import assert from 'node:assert/strict';
 import { execFileSync } from 'node:child_process';
 import { existsSync, mkdirSync, readFileSync, rmSync, writeFileSync } from 'node:fs';
@@ -526,6 +527,7 @@ onPage('the joined board is saved as text: the board\u2019s page, byte for byte'
 const MILLIMETRES = { A4: [210, 297], A5: [148, 210], Letter: [215.9, 279.4] };
 const MARGIN = 12;
 const points = (millimetres) => millimetres / 25.4 * 72;
+const WORD = /<word xMin="([\d.-]+)" yMin="([\d.-]+)" xMax="([\d.-]+)" yMax="([\d.-]+)">(.*?)<\/word>/g;
 
 /** Prints the page, and answers the sheets: each its size, and its words with their places, in points. */
 async function printed(page, name, paper = 'A4') {
@@ -535,9 +537,8 @@ async function printed(page, name, paper = 'A4') {
     const found = execFileSync('pdftotext', ['-bbox', file, '-'], { encoding: 'utf8', maxBuffer: 2 ** 28 });
     return found.split('<page ').slice(1).map((sheet) => {
         const [, width, height] = /^width="([\d.]+)" height="([\d.]+)"/.exec(sheet);
-        const words = [...sheet.matchAll(/<word xMin="([\d.-]+)" yMin="([\d.-]+)" xMax="([\d.-]+)" yMax="([\d.-]+)">(.*?)<\/word>/g)]
-            .map(([, left, top, right, bottom, text]) =>
-                ({ left: Number(left), top: Number(top), right: Number(right), bottom: Number(bottom), text }));
+        const words = [...sheet.matchAll(WORD)].map(([, left, top, right, bottom, text]) =>
+            ({ left: Number(left), top: Number(top), right: Number(right), bottom: Number(bottom), text }));
         return { width: Number(width), height: Number(height), words };
     });
 }
@@ -558,7 +559,9 @@ function linesBelow(words, valueBytes) {
     }
     // Each square stands below what counts its column.
     for (const [, ...squares] of lines) {
-        squares.forEach(({ left }, column) => assert.ok(Math.abs(left - columns[column + 1].left) < 1, `column ${column}`));
+        squares.forEach(({ left }, column) => {
+            assert.ok(Math.abs(left - columns[column + 1].left) < 1, `column ${column}`);
+        });
     }
     return lines;
 }
@@ -578,6 +581,9 @@ function holdsBoard(sheets, dealing) {
     return lines;
 }
 
+const controlsShown = (page) => page.run(() => [...document.querySelectorAll('button, input, select, textarea')]
+    .filter((control) => control.checkVisibility()).map((control) => control.id || control.textContent));
+
 const BOARDS_ON_PAPER = [
     // players, squares, bytes of a value, paper; how many sheets there are at most, and whether they lie on their sides
     [4, 72, 1, 'A4', 1, false], [6, 72, 1, 'A4', 1, false], [6, 72, 1, 'Letter', 1, false], [3, 72, 2, 'A5', 2, false],
@@ -587,7 +593,8 @@ const BOARDS_ON_PAPER = [
 ];
 
 for (const [players, positions, valueBytes, paper, most, isSideways] of BOARDS_ON_PAPER) {
-    onPage(`on paper, ${paper}: ${positions} squares of ${valueBytes} bytes for ${players}, and nothing is cut off`, async (page) => {
+    const name = `${positions} squares of ${valueBytes} bytes for ${players}`;
+    onPage(`on paper, ${paper}: ${name}, and nothing is cut off`, async (page) => {
         const dealing = drawnDealing(players, positions, valueBytes);
         const keys = keysApart(library, library.deal(dealing));
         await give(page, [stored('paper.txt', matchText(keys))], players);
@@ -613,11 +620,12 @@ for (const [players, positions, valueBytes, paper, most, isSideways] of BOARDS_O
         // The type is as large as the line allows: it fills the sheet where values are long, and a few lines are large.
         const [last] = lines[0].slice(-1);
         if (valueBytes >= 6) assert.ok(last.right > sheets[0].width * 0.85, `the line ends at ${last.right}`);
-        if (positions === 72 && valueBytes === 1) assert.ok(last.bottom - last.top > 14, `${last.bottom - last.top} points high`);
+        const high = last.bottom - last.top;
+        if (positions === 72 && valueBytes === 1) assert.ok(high > 14, `${high} points high`);
     });
 }
 
-onPage('on paper: the board\u2019s page in the place of buttons, fields and pictures, and the screen as it was afterwards', async (page) => {
+onPage('on paper: the board\u2019s page in the place of buttons and fields, and the screen as it was', async (page) => {
     const dealing = springDealing(3);
     const keys = keysApart(library, library.deal(dealing));
     await give(page, [stored('match.txt', matchText(keys))], 3);
@@ -626,22 +634,26 @@ onPage('on paper: the board\u2019s page in the place of buttons, fields and pict
     assert.deepEqual(await paper(), [0, pageOfDealing(dealing), hexadecimal(dealing.value)]);
     const screen = await page.run(() => document.body.innerText);
     await page.run(() => window.dispatchEvent(new Event('beforeprint')));
-    await page.send('Emulation.setEmulatedMedia', { media: 'print', features: [{ name: 'prefers-color-scheme', value: 'dark' }] });
+    const dark = [{ name: 'prefers-color-scheme', value: 'dark' }];
+    await page.send('Emulation.setEmulatedMedia', { media: 'print', features: dark });
     assert.deepEqual(await paper(), [1, pageOfDealing(dealing), hexadecimal(dealing.value)]);
-    for (const [selector, shown] of [['#answer', true], ['#caution', true], ['#paper', true], ['#fingerprint-table', true], ['#joined', false],
-        ['.tools', false], ['#intake', false], ['#keys', false], ['#proved-part', false]]) assert.equal(await isShown(page, selector), shown, selector);
-    assert.deepEqual(await page.run(() => [...document.querySelectorAll('button, input, textarea, summary, svg:not(.mark svg)')]
-        .filter((control) => control.checkVisibility()).map((control) => control.id || control.outerHTML)), []);
+    for (const selector of ['#answer', '#caution', '#paper', '#fingerprint-table']) {
+        assert.ok(await isShown(page, selector), selector);
+    }
+    for (const selector of ['#joined', '.tools', '#intake', '#keys', '#proved-part']) {
+        assert.equal(await isShown(page, selector), false, selector);
+    }
+    assert.deepEqual(await controlsShown(page), []);
     // Dark ink on white, also for a reader whose screen is dark.
-    const grounds = await page.run(() => [...document.querySelectorAll('html, body, body *')].filter((found) => found.checkVisibility())
-        .map((found) => getComputedStyle(found).backgroundColor));
+    const grounds = await page.run(() => [...document.querySelectorAll('html, body, body *')]
+        .filter((found) => found.checkVisibility()).map((found) => getComputedStyle(found).backgroundColor));
     assert.deepEqual([...new Set(grounds)].sort(), ['rgb(255, 255, 255)', 'rgba(0, 0, 0, 0)']);
     const found = await page.run(contrasts);
     assert.deepEqual(found.filter(([, contrast]) => contrast < 4.5), []);
     for (const key of keys) assert.ok((await page.run(() => document.body.innerText)).includes(fingerprint(key)));
     await page.screenshot(`${pictures}paper.png`);
     await page.run(() => window.dispatchEvent(new Event('afterprint')));
-    await page.send('Emulation.setEmulatedMedia', { media: '', features: [{ name: 'prefers-color-scheme', value: 'light' }] });
+    await page.send('Emulation.setEmulatedMedia', { media: '', features: dark });
     assert.equal(await page.run(() => document.body.innerText), screen);
     assert.equal(await page.run(() => document.getElementById('fingerprints').open), false);
 }, { ...DESK, scheme: 'dark' });
@@ -666,9 +678,10 @@ onPage('on paper without a joined board: what is there, and no board of an earli
         assert.equal(sheets.length, 1);
         return sheets[0].words.map((word) => word.text).join(' ');
     };
-    const shown = () => page.run(() => [...document.querySelectorAll('button, input, textarea')].filter((control) => control.checkVisibility()).length);
     const empty = await text('paper-empty');
-    for (const words of ['Where did the piece lie?', 'What is a key?', 'Where do keys come from?']) assert.ok(empty.includes(words), words);
+    for (const words of ['Where did the piece lie?', 'What is a key?', 'Where do keys come from?']) {
+        assert.ok(empty.includes(words), words);
+    }
     assert.ok(!empty.includes('first'));
     const keys = springKeys(4);
     await give(page, [stored('match.txt', matchText(keys))], 4);
@@ -677,14 +690,16 @@ onPage('on paper without a joined board: what is there, and no board of an earli
     await page.click('#keys li button');
     assert.equal(await answer(page), 'Player 0\u2019s key is missing.');
     const waiting = await text('paper-waiting');
-    for (const words of ['Player 0\u2019s key is missing.', 'The keys', 'Three of four keys are here.', 'Player 0 missing', ...keys.slice(1).map(fingerprint)]) {
-        assert.ok(waiting.includes(words), words);
-    }
+    for (const words of ['Player 0\u2019s key is missing.', 'The keys', 'Three of four keys are here.',
+        'Player 0 missing', ...keys.slice(1).map(fingerprint)]) assert.ok(waiting.includes(words), words);
     assert.ok(!waiting.includes('first'));
     assert.equal(await page.text('#paper-page'), '');
-    await page.send('Emulation.setEmulatedMedia', { media: 'print' });
-    assert.equal(await shown(), 0);
-    await page.send('Emulation.setEmulatedMedia', { media: '' });
+    for (const times of [1, 2]) {
+        await page.send('Emulation.setEmulatedMedia', { media: 'print' });
+        assert.deepEqual(await controlsShown(page), []);
+        await page.send('Emulation.setEmulatedMedia', { media: '' });
+        if (times === 1) await page.click('#clear');
+    }
 });
 
 onPage('the largest board is shown in parts', async (page) => {
@@ -739,8 +754,8 @@ onPage('by keyboard alone', async (page) => {
     await page.press('Enter');
     assert.equal(await focused(), 'answer');
     const lines = await keyLines(page);
-    assert.deepEqual(await tabbed(10), ['leave-example', 'Square 4 (line 0, column 4): value A5, the piece', 'save-board', 'print', ...lines,
-        'save', 'All fingerprints, whole', 'Give other keys', 'One square, key by key']);
+    assert.deepEqual(await tabbed(10), ['leave-example', 'Square 4 (line 0, column 4): value A5, the piece',
+        'save-board', 'print', ...lines, 'save', 'All fingerprints, whole', 'Give other keys', 'One square, key by key']);
     // In a board: arrows move, Enter chooses, and the board is one stop.
     await page.run(() => document.querySelector('#joined td[tabindex="0"]').focus());
     await page.press('ArrowLeft');

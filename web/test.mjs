@@ -1,6 +1,6 @@
 // Tests of nosingginger.mjs in node: every call, every refusal, the place of a bad column, the printed deal, what is
-// left of a lent output, whole draws of cards, boards' pages, the largest table, deck and page, the memory's growth, the
-// second implementation's answers, drawn dealings and the example. Assumes that targets/build has run.
+// left of a lent output, whole draws of cards, boards' pages, the largest table, deck and page, the memory's growth,
+// the second implementation's answers, drawn dealings and the example. Assumes that targets/build has run.
 import assert from 'node:assert/strict';
 import { execFileSync } from 'node:child_process';
 import { readFileSync, readdirSync } from 'node:fs';
@@ -305,8 +305,9 @@ test('deal: arrays with some bytes drawn at random', () => {
  */
 function withCall(name, call) {
     const { exports } = new WebAssembly.Instance(new WebAssembly.Module(moduleBytes));
-    const own = new Nosingginger({ exports: { ...exports, [name]: (...lent) => call(exports[name], lent, exports.memory) } });
-    return { own, memory: exports.memory };
+    const { memory } = exports;
+    const own = new Nosingginger({ exports: { ...exports, [name]: (...lent) => call(exports[name], lent, memory) } });
+    return { own, memory };
 }
 
 const withDeal = (deal) => withCall('nsg_deal', deal);
@@ -613,7 +614,8 @@ test('write page: lines that were written by hand', () => {
 
 test('write page: every number of value bytes, and every number of squares in the last line', () => {
     for (let valueBytes = 1; valueBytes <= 16; valueBytes += 1) {
-        for (const positions of [1, 2, 3, 4, 5, 6, 7, 8, 9, 10, 15, 16, 17, 72, 97, 104, 105, 255, 256, 257, 1000, 1001]) {
+        const many = [1, 2, 3, 4, 5, 6, 7, 8, 9, 10, 15, 16, 17, 72, 97, 104, 105, 255, 256, 257, 1000, 1001];
+        for (const positions of many) {
             const table = sameEachTime(positions * 17 + valueBytes)(positions * valueBytes);
             const page = nosingginger.writePage(positions, valueBytes, table);
             assert.equal(page, pageOf(positions, valueBytes, table), `${positions} squares of ${valueBytes} bytes`);
@@ -649,7 +651,8 @@ test('write page: refusals in their order, whatever the table', () => {
     }
     for (const [positions, valueBytes] of [[1, 1], [72, 1], [9, 16], [65536, 1], [65536, 16]]) {
         const long = positions * valueBytes;
-        for (const length of [0, 1, long - 1, long + 1, long + valueBytes + 1, 2 * long].filter((other) => other !== long)) {
+        const others = [0, 1, long - 1, long + 1, long + valueBytes + 1, 2 * long].filter((other) => other !== long);
+        for (const length of others) {
             const table = filled(length);
             refused(7, () => nosingginger.writePage(positions, valueBytes, table), table);
         }
@@ -668,7 +671,8 @@ test('write page: the table may be a part of a longer array, and is left as it w
 
 test('write page: the number is lent a place of its own, and tells how much of the output is the page', () => {
     let answer = 0;
-    const { own } = withCall('nsg_write_page', (_, [positions, valueBytes, table, tableBytes, page, pageBytes, written], memory) => {
+    const { own } = withCall('nsg_write_page', (_, lent, memory) => {
+        const [positions, valueBytes, table, tableBytes, page, pageBytes, written] = lent;
         assert.deepEqual([positions, valueBytes, tableBytes, pageBytes], [9, 2, 18n, 92n]);
         assert.equal(written % 4, 0);
         for (const [place, length] of [[table, 18], [page, 92]]) {
