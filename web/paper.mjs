@@ -33,10 +33,10 @@ function aroundSquare(page, board, position) {
 }
 
 function findingWords(piece) {
-    const rule = 'A square is the number at the left of its line and the number above its column, added up.';
+    const rule = 'A square is the number at the left of its line plus the number above its column.';
     if (piece === null) return rule;
     const column = piece % SQUARES_IN_A_LINE;
-    return `${rule} The piece\u2019s is ${piece - column} + ${column}, which is ${piece}.`;
+    return `${rule} The piece\u2019s is ${piece - column} + ${column} = ${piece}.`;
 }
 
 /**

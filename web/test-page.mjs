@@ -614,8 +614,8 @@ for (const [players, positions, valueBytes, paper, most, isSideways] of BOARDS_O
         const column = dealing.point % 8;
         for (const words of [pieceWords(dealing), sentence('caution'),
             `${capital(numbers[players - 2])} players, ${squares} squares, values of ${value}`,
-            'A square is the number at the left of its line and the number above its column, added up.',
-            `The piece\u2019s is ${dealing.point - column} + ${column}, which is ${dealing.point}.`,
+            'A square is the number at the left of its line plus the number above its column.',
+            `The piece\u2019s is ${dealing.point - column} + ${column} = ${dealing.point}.`,
             ...keys.map(fingerprint)]) assert.ok(text.includes(words), words);
         // The type is as large as the line allows: it fills the sheet where values are long, and a few lines are large.
         const [last] = lines[0].slice(-1);
@@ -755,7 +755,8 @@ onPage('by keyboard alone', async (page) => {
     assert.equal(await focused(), 'answer');
     const lines = await keyLines(page);
     assert.deepEqual(await tabbed(10), ['leave-example', 'Square 4 (line 0, column 4): value A5, the piece',
-        'save-board', 'print', ...lines, 'save', 'All fingerprints, whole', 'Give other keys', 'One square, key by key']);
+        'save-board', 'print', ...lines, 'save', 'All fingerprints, whole', 'Give other keys',
+        'One square, key by key']);
     // In a board: arrows move, Enter chooses, and the board is one stop.
     await page.run(() => document.querySelector('#joined td[tabindex="0"]').focus());
     await page.press('ArrowLeft');
