@@ -18,6 +18,7 @@ use crate::operations::KEY_LENGTH;
 use crate::operations::OPEN_ALL;
 use crate::operations::OPEN_ONE;
 use crate::operations::SENSOR_POSITION;
+use crate::operations::WRITE_PAGE;
 use nosingginger::KeyCheck;
 use reader::byte;
 use test_answers::Answered;
@@ -112,6 +113,15 @@ fn draw_card(head: &[u8], inputs: &[u8], lent: &mut [u8]) -> Answered {
     ))
 }
 
+fn write_page(head: &[u8], inputs: &[u8], lent: &mut [u8]) -> Answered {
+    answer(nosingginger::write_page(
+        number_at(head, NUMBER_1),
+        number_at(head, NUMBER_2),
+        inputs,
+        lent,
+    ))
+}
+
 fn join_shares(head: &[u8], inputs: &[u8], lent: &mut [u8]) -> Answered {
     alone(nosingginger::join_shares(
         number_at(head, NUMBER_1),
@@ -154,6 +164,7 @@ fn called(operation: u8, head: &[u8], inputs: &[u8], lent: &mut [u8]) -> Answere
         EXPAND => expand(head, inputs, lent),
         CHOOSE_WIDTH => choose_width(head),
         SENSOR_POSITION => sensor_position(head),
+        WRITE_PAGE => write_page(head, inputs, lent),
         _ => alone(NO_OPERATION),
     }
 }

@@ -24,6 +24,7 @@ use operations::KEY_LENGTH;
 use operations::OPEN_ALL;
 use operations::OPEN_ONE;
 use operations::SENSOR_POSITION;
+use operations::WRITE_PAGE;
 
 fn text(words: &[u8]) {
     io::write_all(STDOUT_FILENO, words);
@@ -41,10 +42,10 @@ fn output_buffer() -> [u8; 70000]
 }
 
 // As many zeros as the file takes, and some more.
-fn file_buffer() -> [u8; 2400000]
-    ensures { λ r. ⌜ 2400000 ≡ length r ⌝ }
+fn file_buffer() -> [u8; 2600000]
+    ensures { λ r. ⌜ 2600000 ≡ length r ⌝ }
 {
-    [0; 2400000]
+    [0; 2600000]
 }
 
 // One operation's line, behind those of its cases that differ.
@@ -85,6 +86,7 @@ fn share_lines(file: &[u8]) {
     line(b"draw card", DRAW_CARD, file);
     line(b"join shares", JOIN_SHARES, file);
     line(b"join keys", JOIN_KEYS, file);
+    line(b"write page", WRITE_PAGE, file);
 }
 
 // The operations on seeds and on numbers alone.

@@ -1,4 +1,5 @@
-// The numbers of the operations in the file: those of document 01 in its order, then the two programs. Assumes nothing.
+// The numbers of the operations in the file: those of document 01 in its order, the two programs, then those of document
+// 02. Assumes nothing.
 pub const KEY_LENGTH: u8 = 1;
 
 pub const DEAL: u8 = 2;
@@ -26,3 +27,5 @@ pub const DEALING_PROGRAM: u8 = 12;
 pub const JOINING_PROGRAM: u8 = 13;
 
 pub const DRAW_CARD: u8 = 14;
+
+pub const WRITE_PAGE: u8 = 15;

@@ -6,7 +6,7 @@ use Rattle.test_compare.proofs.file_buffer.Statement.{statement}
 use Rattle.test_compare.proofs.file_buffer.Tie as tie
 
 returns : tie.Need-returns
-returns c = sym (length-replicate {A = ℕ} 2400000 0)
+returns c = sym (length-replicate {A = ℕ} 2600000 0)
 
 pub file-buffer-spec : {M : Type 1} → statement M
 file-buffer-spec = tie.close (tie.spec returns)
