@@ -35,14 +35,15 @@
    How long a call takes is proved nowhere. Measured is which branches and which addresses in memory depend on what a
    call is lent: in the archive for x86-64, under valgrind's memcheck and on boards of 2 to 6 players with rows of 4 to
    4,096 bytes, and with rows of 4 to 256 bytes where cards of 1 to 256 bytes are drawn, none depends on the value, a
-   seed, a word, a share or a card, in any call. They do depend
+   seed, a word, a share or a card, in any call but nsg_write_page. They do depend
      - in nsg_deal on the arrays, which say whose the seeds are, and on the point: on its grid row, and on its cell by the address at which
        the value is put. Who can watch branches or addresses while a board deals can learn where the piece is. The same holds of a deal
        refused with 18, 19 or 20. Its number and `fault` can tell the point's grid row by themselves: they are for the board's maker, not
        for players;
-     - in the calls that take a key on its header and its marks, and on the position, grid row or column that is asked for;
-     - in nsg_write_page, where it is accepted, on the table: each digit is looked up. A page shows its table to everybody
-       who reads it; a table that nobody may see is not for a page.
+     - in the calls that take a key on its header and its marks, and on the position, grid row or column that is asked
+       for;
+     - in nsg_write_page, where it is accepted, on the table: each digit is looked up. A page shows its table to
+       everybody who reads it; a table that nobody may see is not for a page.
    Every call may depend on its numbers and lengths. Instructions whose own time depends on what they work on were not looked at, nor
    other targets.
 

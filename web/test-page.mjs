@@ -889,7 +889,7 @@ for (const scheme of ['light', 'dark']) {
 
 test('README\u2019s picture is one of this page', async () => {
     const kept = new URL('../docs/page.png', import.meta.url);
-    const page = await browser.open(place, { width: 1280, height: 860 });
+    const page = await browser.open(place, { width: 1280, height: 912 });
     await page.until(() => document.body.dataset.ready === 'yes');
     const keys = keysApart(library, library.deal(springDealing(4, 305)));
     await give(page, keys.map((key, player) => stored(`player-${player}.key`, key)), 4);

@@ -63,6 +63,7 @@ module _ (n w : ℕ) (ts : List ℕ) (r : Answer) (o z : List ℕ) where
       let due : page-refusal n w (length ts) (length o) ≡ 0 → ⊥ = λ h. some (e ∙ h) in
       (says-refused _ _ r due (is ∙ e) none, put-refused _ _ (r .refusal) o z due (is ∙ e) same)
 
-  pub page-given : page-refusal n w (length ts) (length o) ≡ 0 → r .refusal ≡ 0 → r .value ≡ page-long n w → z ≡ in-front (page n w ts) o → Page-says n w ts r o z
+  pub page-given : page-refusal n w (length ts) (length o) ≡ 0 → r .refusal ≡ 0 → r .value ≡ page-long n w → z ≡ in-front (page n w ts) o →
+      Page-says n w ts r o z
   unfolding Page-says
   page-given h is value text = (says-value _ _ r h is value, put-done _ _ (r .refusal) o z h is text)

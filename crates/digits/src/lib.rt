@@ -1,6 +1,6 @@
-// Digits as bytes: numbers in decimal, unpadded or right-aligned, and bytes in hexadecimal. Each writer writes at a place,
-// answers the place behind what it wrote, and leaves every other byte as it was (`Wrote` of the crate writer). Their
-// meaning is specs/Digits.antt. Assumes nothing.
+// Digits as bytes: numbers in decimal, unpadded or right-aligned, and bytes in hexadecimal. Each writer writes at a
+// place, answers the place behind what it wrote, and leaves every other byte as it was (`Wrote` of the crate writer).
+// Their meaning is specs/Digits.antt. Assumes nothing.
 ghost use mathlib.Core.Path.{_≡_};
 ghost use mathlib.Core.Bool.{cond};
 ghost use Prim.Native.Nat.{_+_, _%_, _≤_};

@@ -161,6 +161,10 @@ line-room n w l held past at room ts fits h fit e f =
     let both : held * (2 * w + 1) + past * (2 * w + 1) ≡ 8 * (2 * w + 1) = sym (add-mul held past (2 * w + 1)) ∙ ap (λ (k : ℕ). k * (2 * w + 1)) all in
     (omega (arith, fits .whole, mul-le-mul-right {m = 8 * l + held} {n = n} w (omega arith)), omega arith)
 
+-- so many lines
+pub lines-long : (n w l : ℕ) (ts : List ℕ) → Pageable n w ts → l ≤ page-lines n → length (in-a-row l 0 (λ j. page-line n w ts j)) ≡ l * line-long w
+lines-long n w l ts fits h = row-long (line-long w) l 0 (λ j. page-line n w ts j) (λ j least most. line-is-long n w ts fits j (omega arith))
+
 -- one line more
 pub lines-turn : (n w l : ℕ) {next after : ℕ} (ts : List ℕ) {old between now : List ℕ} → Pageable n w ts → l < page-lines n → page-long n w ≤ length old →
     Wrote 0 (in-a-row l 0 (λ j. page-line n w ts j)) next old between → Wrote next (page-line n w ts l) after between now →
@@ -171,12 +175,7 @@ lines-turn n w l ts fits h room p q =
     let here : 0 + l ≡ l = omega arith in
     let grown : in-a-row (l + 1) 0 F ≡ in-a-row l 0 F ++ page-line n w ts l = row-next l 0 F ∙ ap (λ (j : ℕ). in-a-row l 0 F ++ page-line n w ts j) here in
     wrote-more (in-a-row l 0 F) (page-line n w ts l) (in-a-row (l + 1) 0 F) grown
-    (omega (arith, row-long (line-long w) (l + 1) 0 F (λ j least most. line-is-long n w ts fits j (omega arith)), part-within l (page-lines n) (line-long w) h, suc-mul l (line-long w)))
-    p q
-
--- so far
-pub lines-long : (n w l : ℕ) (ts : List ℕ) → Pageable n w ts → l ≤ page-lines n → length (in-a-row l 0 (λ j. page-line n w ts j)) ≡ l * line-long w
-lines-long n w l ts fits h = row-long (line-long w) l 0 (λ j. page-line n w ts j) (λ j least most. line-is-long n w ts fits j (omega arith))
+    (omega (arith, lines-long n w (l + 1) ts fits (omega arith), part-within l (page-lines n) (line-long w) h, suc-mul l (line-long w))) p q
 
 -- the largest page
 pub page-most : (n w : ℕ) → n ≤ 65536 → w ≤ 16 → page-long n w ≤ 2211840

@@ -1,5 +1,5 @@
--- THE BOARD ON A PAGE: a table as lines of text, document 02, (iv), whose sentences are quoted. Assumes nothing: these are
--- definitions.
+-- THE BOARD ON A PAGE: a table as lines of text, document 02, (iv), whose sentences are quoted. Assumes nothing: these
+-- are definitions.
 use mathlib.Core.Path.{_≡_}
 use mathlib.Core.Bool.{cond}
 use mathlib.Core.List.{List, [], _∷_, _++_}

@@ -1,5 +1,5 @@
-// The board on a page: a table as lines of eight cells, which clubs pin up. Everything is written straight into the lent
-// output, line behind line. Its meaning is specs/Page.antt. Assumes nothing.
+// The board on a page: a table as lines of eight cells, which clubs pin up. Everything is written straight into the
+// lent output, line behind line. Its meaning is specs/Page.antt. Assumes nothing.
 ghost use mathlib.Core.Path.{_≡_};
 ghost use mathlib.Core.List.{_∷_};
 ghost use Prim.Native.Nat.{_+_, _*_, _≤_, _<_, min};

@@ -32,7 +32,8 @@ use Rattle.promises.proofs.Calls.{deals-open}
 use Rattle.promises.proofs.WrittenPages.{page-written}
 
 -- what a call left, as far as it tells, is the page
-page-left : (n w : ℕ) (ts : List ℕ) (r : Answer) (out out-now : List ℕ) → Page-says n w ts r out out-now → r .refusal ≡ 0 → take (r .value) out-now ≡ page n w ts
+page-left : (n w : ℕ) (ts : List ℕ) (r : Answer) (out out-now : List ℕ) → Page-says n w ts r out out-now → r .refusal ≡ 0 →
+    take (r .value) out-now ≡ page n w ts
 page-left n w ts r out out-now h none =
     let called = page-written n w ts r out out-now h none in
     ap (take (r .value)) (called .now) ∙ take-front (r .value) (page n w ts) out (called .long)

@@ -48,8 +48,8 @@ Accepted-pages =
     (n w : ℕ) (ts : List ℕ) (r : Answer) (out out-now : List ℕ) → positions-fit n ≡ true → value-fits w ≡ true →
     length ts ≡ n * w → page-long n w ≤ length out → Page-says n w ts r out out-now → r .refusal ≡ 0
 
--- "Clubs pin up the opened table": of every deal that is answered by 0, what Join keys writes of its keys and Write page
--- of that is read back as the value on the point's square and zeros on every other
+-- "Clubs pin up the opened table": of every deal that is answered by 0, what Join keys writes of its keys and Write
+-- page of that is read back as the value on the point's square and zeros on every other
 unfoldable pub Deals-on-a-page : Type 0
 Deals-on-a-page =
     (p n m w point : ℕ) (value : List ℕ) (long : Answer) (keys-now : List ℕ) (r : ℕ) (a : Answer)

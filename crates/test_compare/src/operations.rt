@@ -1,5 +1,5 @@
-// The numbers of the operations in the file: those of document 01 in its order, the two programs, then those of document
-// 02. Assumes nothing.
+// The numbers of the operations in the file: those of document 01 in its order, the two programs, then those of
+// document 02. Assumes nothing.
 pub const KEY_LENGTH: u8 = 1;
 
 pub const DEAL: u8 = 2;

@@ -7,10 +7,16 @@ use Rattle.digits.proofs.put_in_five_places.Tie as tie
 
 returns : tie.Need-returns
 returns c =
-    let s = c .before .before .before .before .before .before .before .before .before .before .before .before .before .before .before .before .before .before .before .before .before .before .before .before .before in
-    wrote-five (s .args .number) _ _ _ _ _ (omega arith) (s .pre .0) (s .pre .1) (c .before .before .before .before .before .before .before .before .before .before .before .before .before .before .before .before .before .before .before .before .before .before .digit-or-space .ensures) (c .before .before .before .before .before .before .before .before .before .before .before .before .before .before .before .before .before .digit-or-space2 .ensures)
-    (c .before .before .before .before .before .before .before .before .before .before .before .before .digit-or-space3 .ensures) (c .before .before .before .before .before .before .before .digit-or-space4 .ensures) (omega arith)
-    (c .before .before .before .before .before .before .before .before .before .before .before .before .before .before .before .before .before .before .before .before .before .put-byte .ensures) (c .before .before .before .before .before .before .before .before .before .before .before .before .before .before .before .before .put-byte2 .ensures) (c .before .before .before .before .before .before .before .before .before .before .before .put-byte3 .ensures) (c .before .before .before .before .before .before .put-byte4 .ensures) (c .before .before .put-byte5 .ensures)
+    let fifth = c .before .before in
+    let fourth = fifth .before .before .before .before in
+    let third = fourth .before .before .before .before .before in
+    let second = third .before .before .before .before .before in
+    let first = second .before .before .before .before .before in
+    let s = first .before .before .before .before in
+    wrote-five (s .args .number) _ _ _ _ _ (omega arith) (s .pre .0) (s .pre .1)
+    (first .before .digit-or-space .ensures) (second .before .digit-or-space2 .ensures) (third .before .digit-or-space3 .ensures)
+    (fourth .before .digit-or-space4 .ensures) (omega arith)
+    (first .put-byte .ensures) (second .put-byte2 .ensures) (third .put-byte3 .ensures) (fourth .put-byte4 .ensures) (fifth .put-byte5 .ensures)
 
 digit-or-space-requires : tie.Need-digit-or-space-requires
 digit-or-space-requires c κs = search needs

@@ -11,7 +11,8 @@ use Rattle.page.proofs.put_cell.Tie as tie
 returns : tie.Need-returns
 returns c =
     let s = c .before .before .before .before .before .before .before .before .before .before in
-    wrote-then (32 ∷ []) (hex (now (s .args .value))) (omega (arith, s .pre)) (c .before .before .before .before .before .before .put-byte .ensures) (c .before .before .put-hex .ensures)
+    wrote-then (32 ∷ []) (hex (now (s .args .value))) (omega (arith, s .pre))
+    (c .before .before .before .before .before .before .put-byte .ensures) (c .before .before .put-hex .ensures)
 
 put-byte-requires : tie.Need-put-byte-requires
 put-byte-requires c κs = search needs

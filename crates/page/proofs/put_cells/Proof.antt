@@ -32,7 +32,8 @@ loop-again c =
       omega arith,
       next-value (a .first) (l .cell) (a .value-bytes) (l .from) (l .inv .1),
       put .kept .0 ∙ l .inv .2,
-      cells-turn (a .at) (a .first) (l .cell) (a .count) (a .value-bytes) _ (now (a .table)) (omega arith) (s .pre .0) (s .pre .1) (l .inv .3) (put .ensures) (part-cut (a .first + l .cell) (a .value-bytes) (l .from) (now (a .table)) (l .inv .1)),
+      cells-turn (a .at) (a .first) (l .cell) (a .count) (a .value-bytes) _ (now (a .table)) (omega arith) (s .pre .0) (s .pre .1) (l .inv .3) (put .ensures)
+      (part-cut (a .first + l .cell) (a .value-bytes) (l .from) (now (a .table)) (l .inv .1)),
     )
 
 returns : tie.Need-returns Inv-loop μ-loop
@@ -40,10 +41,12 @@ returns c =
     let a = c .before .before .before .before .args in
     let l = c .before .loop in
     let all : l .cell ≡ a .count = omega arith in
-    subst (λ (k : ℕ). Wrote (a .at) (in-a-row k (a .first) (λ j. value-cell (a .value-bytes) (now (a .table)) j)) (l .next) (now (a .out)) (l .out)) all (l .inv .3)
+    subst (λ (k : ℕ). Wrote (a .at) (in-a-row k (a .first) (λ j. value-cell (a .value-bytes) (now (a .table)) j)) (l .next) (now (a .out)) (l .out))
+    all (l .inv .3)
 
 -- the value stands in the table
-value-in : (c : tie.In-loop Inv-loop μ-loop) → let a = c .before .before .before .before .args in c .before .loop .from + a .value-bytes ≤ length (now (a .table))
+value-in : (c : tie.In-loop Inv-loop μ-loop) → let a = c .before .before .before .before .args in
+    c .before .loop .from + a .value-bytes ≤ length (now (a .table))
 value-in c =
     let s = c .before .before .before .before in
     let a = s .args in
@@ -78,7 +81,8 @@ put-cell-requires c κs =
     let s = c .before .before .before .before .before .before in
     let a = s .args in
     let l = c .before .before .before .loop in
-    cell-room (a .at) (a .first) (l .cell) (a .count) (a .value-bytes) (l .from) (l .next) _ (now (a .table)) (omega arith) (s .pre .0) (omega (arith, s .pre .1, l .inv .2)) (l .inv .1) (l .inv .3 .next-is)
+    cell-room (a .at) (a .first) (l .cell) (a .count) (a .value-bytes) (l .from) (l .next) _ (now (a .table)) (omega arith) (s .pre .0)
+    (omega (arith, s .pre .1, l .inv .2)) (l .inv .1) (l .inv .3 .next-is)
 
 add-cell : tie.Need-add-cell Inv-loop μ-loop
 add-cell c = omega arith

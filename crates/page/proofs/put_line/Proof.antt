@@ -6,21 +6,49 @@ use native.Mathlib.Nat.{mul-le-mul}
 use native.Mathlib.Omega.{arith}
 use lib.ListN.{length}
 use denote.Ref.{now}
+use Rattle.writer.specs.InARow.{in-a-row}
+use Rattle.digits.specs.Digits.{right-aligned}
 use Rattle.digits.proofs.Laws.{aligned-long}
-use Rattle.page.specs.Page.{line-long}
+use Rattle.page.specs.Page.{value-cell, line-long}
 use Rattle.page.proofs.Laws.{line-first, first-fits, spaces-long, values-long, line-room, line-wrote}
 use borrow.Author.Needs.{needs}
 use Rattle.page.proofs.put_line.Statement.{statement}
 use Rattle.page.proofs.put_line.Tie as tie
 
+-- the values of a line stand in the table, and its cells have their room
+known : (c : tie.After-cells-held) → let a = c .before .before .before .args in
+    ((8 * a .line + c .cells-held .result) * a .value-bytes ≤ length (now (a .table)))
+    × (a .at + 5 + c .cells-held .result * (2 * a .value-bytes + 1) + (8 - c .cells-held .result) * (2 * a .value-bytes + 1) + 1 ≤ length (now (a .out)))
+known c =
+    let s = c .before .before .before in
+    let a = s .args in
+    line-room (a .positions) (a .value-bytes) (a .line) (c .cells-held .result) _ (a .at) (length (now (a .out))) (now (a .table))
+    (s .pre .0) (s .pre .1) (s .pre .2) (c .cells-held .ensures) refl
+
+-- five places and the cells are so long
+five : (c : tie.After-cells-held) → length (right-aligned 5 (8 * c .before .before .before .args .line)) ≡ 5
+five c =
+    let s = c .before .before .before in
+    aligned-long 5 (8 * s .args .line) (first-fits (s .args .positions) (s .args .line) (s .pre .0 .positions-few) (s .pre .1))
+
+cells : (c : tie.After-cells-held) → let a = c .before .before .before .args in
+    length (in-a-row (c .cells-held .result) (8 * a .line) (λ j. value-cell (a .value-bytes) (now (a .table)) j))
+    ≡ c .cells-held .result * (2 * a .value-bytes + 1)
+cells c =
+    let a = c .before .before .before .args in
+    values-long (c .cells-held .result) (8 * a .line) (c .cells-held .result) (a .value-bytes) (now (a .table)) (omega arith) (known c .0)
+
 returns : tie.Need-returns
 returns c =
-    let s = c .before .before .before .before .before .before .before .before .before .before .before .before .before .before .before .before .before .before .before .before in
+    let blank = c .before .before .before .before .before .before in
+    let values = blank .before .before .before .before .before in
+    let number = values .before .before .before .before in
+    let held = number .before .before in
+    let s = held .before .before .before in
     let a = s .args in
-    let spaced = c .before .before .before .before .before .before .put-spaces .ensures in
-    let wide = c .before .before .before .before .before .before .before .cell-length .ensures in
-    line-wrote (a .positions) (a .value-bytes) (a .line) _ _ (now (a .table)) (s .pre .0) (s .pre .1) (s .pre .2) (c .before .before .before .before .before .before .before .before .before .before .before .before .before .before .before .put-in-five-places .ensures)
-    (c .before .before .before .before .before .before .before .before .before .before .before .put-values .ensures) (rw wide at spaced) (c .before .before .put-byte .ensures) (c .before .before .before .before .before .before .before .before .before .before .before .before .before .before .before .before .before .cells-held .ensures) refl
+    let spaced = blank .put-spaces .ensures in
+    line-wrote (a .positions) (a .value-bytes) (a .line) _ _ (now (a .table)) (s .pre .0) (s .pre .1) (s .pre .2) (number .put-in-five-places .ensures)
+    (values .put-values .ensures) (rw (blank .before .cell-length .ensures) at spaced) (c .before .before .put-byte .ensures) (held .cells-held .ensures) refl
 
 mul-first : tie.Need-mul-first
 mul-first c =
@@ -51,12 +79,9 @@ put-in-five-places-requires c κs =
 
 put-values-requires : tie.Need-put-values-requires
 put-values-requires c κs =
-    let s = c .before .before .before .before .before .before .before .before in
-    let a = s .args in
-    let held = c .before .before .before .before .before .cells-held in
-    let five = c .before .before .before .put-in-five-places in
-    let room = line-room (a .positions) (a .value-bytes) (a .line) (held .result) _ (a .at) (length (now (a .out))) (now (a .table)) (s .pre .0) (s .pre .1) (s .pre .2) (held .ensures) refl in
-    (room .0, omega (arith, room .1, five .ensures .next-is, five .kept .0, aligned-long 5 (8 * a .line) (first-fits (a .positions) (a .line) (s .pre .0 .positions-few) (s .pre .1))))
+    let number = c .before .before .before .put-in-five-places in
+    let held = c .before .before .before .before .before in
+    (known held .0, omega (arith, known held .1, number .ensures .next-is, number .kept .0, five held))
 
 cell-length-requires : tie.Need-cell-length-requires
 cell-length-requires c κs = search needs
@@ -69,30 +94,23 @@ mul-put-spaces c =
 
 put-spaces-requires : tie.Need-put-spaces-requires
 put-spaces-requires c κs =
-    let s = c .before .before .before .before .before .before .before .before .before .before .before .before .before in
-    let a = s .args in
-    let held = c .before .before .before .before .before .before .before .before .before .before .cells-held in
-    let five = c .before .before .before .before .before .before .before .before .put-in-five-places in
     let values = c .before .before .before .before .put-values in
-    let room = line-room (a .positions) (a .value-bytes) (a .line) (held .result) _ (a .at) (length (now (a .out))) (now (a .table)) (s .pre .0) (s .pre .1) (s .pre .2) (held .ensures) refl in
-    let number = aligned-long 5 (8 * a .line) (first-fits (a .positions) (a .line) (s .pre .0 .positions-few) (s .pre .1)) in
-    let cells = values-long (held .result) (8 * a .line) (held .result) (a .value-bytes) (now (a .table)) (omega arith) (room .0) in
-    rw (c .cell-length .ensures) (omega (arith, room .1, five .ensures .next-is, five .kept .0, values .ensures .next-is, values .kept .0))
+    let number = c .before .before .before .before .before .before .before .before .put-in-five-places in
+    let held = c .before .before .before .before .before .before .before .before .before .before in
+    rw (c .cell-length .ensures)
+    (omega (arith, known held .1, five held, cells held, number .ensures .next-is, number .kept .0, values .ensures .next-is, values .kept .0))
 
 put-byte-requires : tie.Need-put-byte-requires
 put-byte-requires c κs =
-    let s = c .before .before .before .before .before .before .before .before .before .before .before .before .before .before .before .before .before in
-    let a = s .args in
-    let held = c .before .before .before .before .before .before .before .before .before .before .before .before .before .before .cells-held in
-    let five = c .before .before .before .before .before .before .before .before .before .before .before .before .put-in-five-places in
-    let values = c .before .before .before .before .before .before .before .before .put-values in
-    let wide = c .before .before .before .before .cell-length .ensures in
     let blank = c .before .before .before .put-spaces in
-    let room = line-room (a .positions) (a .value-bytes) (a .line) (held .result) _ (a .at) (length (now (a .out))) (now (a .table)) (s .pre .0) (s .pre .1) (s .pre .2) (held .ensures) refl in
-    let number = aligned-long 5 (8 * a .line) (first-fits (a .positions) (a .line) (s .pre .0 .positions-few) (s .pre .1)) in
-    let cells = values-long (held .result) (8 * a .line) (held .result) (a .value-bytes) (now (a .table)) (omega arith) (room .0) in
-    let spaced = rw wide at (spaces-long ((8 - held .result) * c .before .before .before .before .cell-length .result)) in
-    omega (arith, room .1, five .ensures .next-is, five .kept .0, values .ensures .next-is, values .kept .0, rw wide at (blank .ensures .next-is), blank .kept .0)
+    let wide = c .before .before .before .before .cell-length in
+    let values = c .before .before .before .before .before .before .before .before .put-values in
+    let number = c .before .before .before .before .before .before .before .before .before .before .before .before .put-in-five-places in
+    let held = c .before .before .before .before .before .before .before .before .before .before .before .before .before .before in
+    let spaced = rw (wide .ensures) at (spaces-long ((8 - held .cells-held .result) * wide .result)) in
+    let behind = rw (wide .ensures) at (blank .ensures .next-is) in
+    omega
+    (arith, known held .1, five held, cells held, number .ensures .next-is, number .kept .0, values .ensures .next-is, values .kept .0, blank .kept .0)
 
 same-length : tie.Need-same-length
 same-length c = search needs

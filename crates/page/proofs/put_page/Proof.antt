@@ -26,7 +26,8 @@ returns c =
     let a = c .before .before .before .before .before .args in
     let l = c .before .loop in
     let all : l .line ≡ page-lines (a .positions) = omega (arith, c .before .before .page-lines .ensures) in
-    subst (λ (k : ℕ). Wrote 0 (in-a-row k 0 (λ j. page-line (a .positions) (a .value-bytes) (now (a .table)) j)) (l .next) (now (a .out)) (l .out)) all (l .inv .2)
+    subst (λ (k : ℕ). Wrote 0 (in-a-row k 0 (λ j. page-line (a .positions) (a .value-bytes) (now (a .table)) j)) (l .next) (now (a .out)) (l .out))
+    all (l .inv .2)
 
 loop-again : tie.Need-loop-again Inv-loop μ-loop
 loop-again c =
@@ -36,7 +37,8 @@ loop-again c =
     let put = c .before .before .put-line in (
       omega arith,
       put .kept .0 ∙ l .inv .1,
-      lines-turn (a .positions) (a .value-bytes) (l .line) (now (a .table)) (s .pre .0) (omega (arith, c .before .before .before .before .before .before .page-lines .ensures)) (s .pre .1) (l .inv .2) (put .ensures),
+      lines-turn (a .positions) (a .value-bytes) (l .line) (now (a .table)) (s .pre .0)
+      (omega (arith, c .before .before .before .before .before .before .page-lines .ensures)) (s .pre .1) (l .inv .2) (put .ensures),
     )
 
 page-lines-requires : tie.Need-page-lines-requires Inv-loop μ-loop
@@ -54,7 +56,8 @@ put-line-requires c κs =
     let l = c .before .before .loop in
     let before : l .line < page-lines (a .positions) = omega (arith, c .before .before .before .page-lines .ensures) in
     let long = lines-long (a .positions) (a .value-bytes) (l .line) (now (a .table)) (s .pre .0) (omega arith) in
-    (s .pre .0, before, omega (arith, s .pre .1, l .inv .1, l .inv .2 .next-is, part-within (l .line) (page-lines (a .positions)) (line-long (a .value-bytes)) before))
+    let room = part-within (l .line) (page-lines (a .positions)) (line-long (a .value-bytes)) before in
+    (s .pre .0, before, omega (arith, s .pre .1, l .inv .1, l .inv .2 .next-is))
 
 add-line : tie.Need-add-line Inv-loop μ-loop
 add-line c =

@@ -51,7 +51,10 @@ returns c =
     let l = c .before .loop in
     let a = c .before .before .args in
     let long = length-replicate {A = ℕ} (a .count) 32 in
-    record { next-is = ap (λ (n : ℕ). a .at + n) (sym long); now-is = put-done (a .at) (l .i) (replicate (a .count) 32) (now (a .out)) (l .out) (omega arith) (l .inv .2) }
+    record {
+      next-is = ap (λ (n : ℕ). a .at + n) (sym long);
+      now-is = put-done (a .at) (l .i) (replicate (a .count) 32) (now (a .out)) (l .out) (omega arith) (l .inv .2);
+    }
 
 pub put-spaces-spec : {M : Type 1} → statement M
 put-spaces-spec =

@@ -16,7 +16,8 @@ returns c =
     let a = c .before .before .before .before .before .before .before .args in
     let put = c .before .before .put-cells in
     let one : a .value-bytes ≡ 1 = omega arith in
-    subst (λ (w : ℕ). Wrote (a .at) (in-a-row (a .count) (a .first) (λ j. value-cell w (now (a .table)) j)) (put .result) (now (a .out)) (put .last .0)) (sym one) (put .ensures)
+    subst (λ (w : ℕ). Wrote (a .at) (in-a-row (a .count) (a .first) (λ j. value-cell w (now (a .table)) j)) (put .result) (now (a .out)) (put .last .0))
+    (sym one) (put .ensures)
 
 put-cells-requires : tie.Need-put-cells-requires
 put-cells-requires c κs =

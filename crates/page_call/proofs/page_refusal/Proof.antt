@@ -23,19 +23,22 @@ returns-2 c = page-4 _ _ _ _ (positions-in (c .before .before)) (failed (c .befo
 returns-3 : tie.Need-returns-3
 returns-3 c =
     let a = c .before .before .before .before .before .args in
-    page-7 (a .positions) (a .value-bytes) (a .table) (a .room) (positions-in (c .before .before .before)) (bytes-in (c .before)) (λ same. omega (arith, c .if3))
+    page-7 (a .positions) (a .value-bytes) (a .table) (a .room) (positions-in (c .before .before .before)) (bytes-in (c .before))
+    (λ same. omega (arith, c .if3))
 
 returns-4 : tie.Need-returns-4
 returns-4 c =
     let long = c .before .before in
     let a = long .before .before .before .before .before .args in
-    page-9 (a .positions) (a .value-bytes) (a .table) (a .room) (positions-in (long .before .before .before)) (bytes-in (long .before)) (omega (arith, long .if3)) (omega (arith, c .if4, c .before .page-length .ensures))
+    page-9 (a .positions) (a .value-bytes) (a .table) (a .room) (positions-in (long .before .before .before)) (bytes-in (long .before))
+    (omega (arith, long .if3)) (omega (arith, c .if4, c .before .page-length .ensures))
 
 returns-5 : tie.Need-returns-5
 returns-5 c =
     let long = c .before .before in
     let a = long .before .before .before .before .before .args in
-    page-0 (a .positions) (a .value-bytes) (a .table) (a .room) (positions-in (long .before .before .before)) (bytes-in (long .before)) (omega (arith, long .if3)) (omega (arith, c .if4, c .before .page-length .ensures))
+    page-0 (a .positions) (a .value-bytes) (a .table) (a .room) (positions-in (long .before .before .before)) (bytes-in (long .before))
+    (omega (arith, long .if3)) (omega (arith, c .if4, c .before .page-length .ensures))
 
 positions-fit-requires : tie.Need-positions-fit-requires
 positions-fit-requires c κs = search needs

@@ -32,7 +32,8 @@ returns-2 c =
     let text = page (a .positions) (a .value-bytes) (now (a .table)) in
     let told = c .accepted .ensures in
     page-given _ _ _ _ _ _ (sym (e .before .page-refusal .ensures) ∙ e .if1 .left) (told .0)
-    (omega (arith, told .1, put .next-is, page-is-long (a .positions) (a .value-bytes) (now (a .table)) (fit e .0))) (put .now-is ∙ written-front text (now (a .output)))
+    (omega (arith, told .1, put .next-is, page-is-long (a .positions) (a .value-bytes) (now (a .table)) (fit e .0)))
+    (put .now-is ∙ written-front text (now (a .output)))
 
 page-refusal-requires : tie.Need-page-refusal-requires
 page-refusal-requires c κs = search needs
@@ -49,7 +50,8 @@ cast-accepted c =
     let e = c .before .before .before .before in
     let a = e .before .before .before .before .args in
     let fits = fit e .0 in
-    omega (arith, put .next-is, page-is-long (a .positions) (a .value-bytes) (now (a .table)) fits, page-most (a .positions) (a .value-bytes) (fits .positions-few) (fits .bytes-few))
+    let most = page-most (a .positions) (a .value-bytes) (fits .positions-few) (fits .bytes-few) in
+    omega (arith, put .next-is, page-is-long (a .positions) (a .value-bytes) (now (a .table)) fits)
 
 accepted-requires : tie.Need-accepted-requires
 accepted-requires c κs = search needs

@@ -49,7 +49,8 @@ put-position-line-requires c κs =
     let s = c .before .before .before .before .before .before in
     let a = s .args in
     let l = c .before .before .before .loop in
-    subst (λ (v : List ℕ). l .next + length (position-line (l .position) v) ≤ length (l .out)) (sym (part-cut (l .position) (a .value-bytes) (l .from) (now (a .table)) (l .inv .1)))
+    subst (λ (v : List ℕ). l .next + length (position-line (l .position) v) ≤ length (l .out))
+    (sym (part-cut (l .position) (a .value-bytes) (l .from) (now (a .table)) (l .inv .1)))
     (omega (arith, l .inv .3 .next-is, s .pre .1, lines-within (l .position) (a .positions) (a .value-bytes) (now (a .table)) (omega arith)))
 
 add-position : tie.Need-add-position Inv-loop μ-loop
@@ -67,7 +68,8 @@ loop-again c =
       omega arith,
       rw (add-one, suc-mul (l .position) (a .value-bytes), l .inv .1),
       written .kept .0 ∙ l .inv .2,
-      lines-turn (a .at) (l .position) (a .positions) (a .value-bytes) _ (now (a .table)) (omega arith) (part-cut (l .position) (a .value-bytes) (l .from) (now (a .table)) (l .inv .1)) (s .pre .1) (l .inv .3) (written .ensures),
+      lines-turn (a .at) (l .position) (a .positions) (a .value-bytes) _ (now (a .table)) (omega arith)
+      (part-cut (l .position) (a .value-bytes) (l .from) (now (a .table)) (l .inv .1)) (s .pre .1) (l .inv .3) (written .ensures),
     )
 
 same-length : tie.Need-same-length Inv-loop μ-loop
