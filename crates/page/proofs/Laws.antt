@@ -17,7 +17,7 @@ use Rattle.writer.proofs.InARow.{row-same, row-long, row-split, row-next, row-r
 use Rattle.writer.proofs.Cuts.{part-within, part-cut}
 use Rattle.digits.specs.Digits.{hex, spaces, right-aligned, decimal}
 use Rattle.digits.proofs.Laws.{hex-long, decimal-five, aligned-long}
-use Rattle.page.specs.Page.{value-at, value-cell, page-cell, page-line, page-lines, page, line-long, page-long, Pageable}
+use Rattle.page.specs.Page.{value-at, value-cell, value-cells, page-cell, page-line, page-lines, page, line-long, page-long, Pageable}
 
 -- CELLS
 
@@ -43,7 +43,7 @@ value-cell-long w ts a h = omega (arith, hex-long (value-at w ts a), value-long 
 
 -- the cells of values that stand in the table
 pub values-long : (k first count w : ℕ) (ts : List ℕ) → k ≤ count → (first + count) * w ≤ length ts →
-    length (in-a-row k first (λ a. value-cell w ts a)) ≡ k * (2 * w + 1)
+    length (value-cells k first w ts) ≡ k * (2 * w + 1)
 values-long k first count w ts few whole =
     row-long (2 * w + 1) k first (λ a. value-cell w ts a)
     (λ j p q. value-cell-long w ts j (omega (arith, part-within j (first + count) w (omega arith))))
@@ -89,7 +89,7 @@ module _ (n w : ℕ) (ts : List ℕ) (fits : Pageable n w ts) where
 
 -- the cells of a line as they are written
 pub cells-split : (n w : ℕ) (ts : List ℕ) (first held past : ℕ) → first < n → held ≡ min 8 (n - first) → past ≡ 8 - held →
-    in-a-row 8 first (λ a. page-cell n w ts a) ≡ in-a-row held first (λ a. value-cell w ts a) ++ spaces (past * (2 * w + 1))
+    in-a-row 8 first (λ a. page-cell n w ts a) ≡ value-cells held first w ts ++ spaces (past * (2 * w + 1))
 unfolding spaces
 cells-split n w ts first held past some h p =
     let cell : ℕ → List ℕ = λ a. page-cell n w ts a in
@@ -99,15 +99,15 @@ cells-split n w ts first held past some h p =
       row-same held first cell (λ a. value-cell w ts a) (λ j least most. page-cell-here n w ts j (omega arith)),
       row-same past (first + held) cell (λ a. spaces (2 * w + 1)) (λ j least most. page-cell-past n w ts j (omega arith)),
     )
-    (ap (λ (l : List ℕ). in-a-row held first (λ a. value-cell w ts a) ++ l) (row-repeat (2 * w + 1) past (first + held) 32))
+    (ap (λ (l : List ℕ). value-cells held first w ts ++ l) (row-repeat (2 * w + 1) past (first + held) 32))
 
 -- WRITING
 
 -- one cell more
 pub cells-turn : (at first cell count w : ℕ) {next after : ℕ} (value ts : List ℕ) {old between now : List ℕ} → cell < count →
-    (first + count) * w ≤ length ts → at + count * (2 * w + 1) ≤ length old → Wrote at (in-a-row cell first (λ a. value-cell w ts a)) next old between →
+    (first + count) * w ≤ length ts → at + count * (2 * w + 1) ≤ length old → Wrote at (value-cells cell first w ts) next old between →
     Wrote next (32 ∷ hex value) after between now → value ≡ value-at w ts (first + cell) →
-    Wrote at (in-a-row (cell + 1) first (λ a. value-cell w ts a)) after old now
+    Wrote at (value-cells (cell + 1) first w ts) after old now
 unfolding value-cell
 cells-turn at first cell count w value ts within whole room p q is =
     let F : ℕ → List ℕ = λ a. value-cell w ts a in
@@ -123,7 +123,7 @@ next-value first cell w from e =
 
 -- the next cell has its room
 pub cell-room : (at first cell count w from next room : ℕ) (ts : List ℕ) → cell < count → (first + count) * w ≤ length ts →
-    at + count * (2 * w + 1) ≤ room → from ≡ (first + cell) * w → next ≡ at + length (in-a-row cell first (λ a. value-cell w ts a)) →
+    at + count * (2 * w + 1) ≤ room → from ≡ (first + cell) * w → next ≡ at + length (value-cells cell first w ts) →
     next + 1 + length (hex (take (from + w - from) (drop from ts))) ≤ room
 unfolding value-at
 cell-room at first cell count w from next room ts within whole fits e behind =
@@ -134,13 +134,13 @@ cell-room at first cell count w from next room ts within whole fits e behind =
 
 -- the four parts of a line
 pub line-wrote : (n w l held past : ℕ) {at a b c next : ℕ} (ts : List ℕ) {old one two three now : List ℕ} → Pageable n w ts → l < page-lines n →
-    at + line-long w ≤ length old → Wrote at (right-aligned 5 (8 * l)) a old one → Wrote a (in-a-row held (8 * l) (λ j. value-cell w ts j)) b one two →
+    at + line-long w ≤ length old → Wrote at (right-aligned 5 (8 * l)) a old one → Wrote a (value-cells held (8 * l) w ts) b one two →
     Wrote b (spaces (past * (2 * w + 1))) c two three → Wrote c (10 ∷ []) next three now → held ≡ min 8 (n - 8 * l) → past ≡ 8 - held →
     Wrote at (page-line n w ts l) next old now
 unfolding page-line line-long
 line-wrote n w l held past ts fits h room p q r s e f =
     let number = right-aligned 5 (8 * l) in
-    let values = in-a-row held (8 * l) (λ j. value-cell w ts j) in
+    let values = value-cells held (8 * l) w ts in
     let blank = spaces (past * (2 * w + 1)) in
     let five = aligned-long 5 (8 * l) (first-fits n l (fits .positions-few) h) in
     let split = cells-split n w ts (8 * l) held past (line-first n l h) e f in

@@ -17,6 +17,10 @@ value-at w ts a = take w (drop (a * w) ts)
 unfoldable pub value-cell : (w : ℕ) → (table : List ℕ) → (a : ℕ) → List ℕ
 value-cell w ts a = 32 ∷ hex (value-at w ts a)
 
+-- those of so many positions from `first` on
+abbrev pub value-cells : (count first w : ℕ) → (table : List ℕ) → List ℕ
+value-cells k first w ts = in-a-row k first (λ a. value-cell w ts a)
+
 -- each cell: a value's, and "spaces for cells past N"
 unfoldable pub page-cell : (n w : ℕ) → (table : List ℕ) → (a : ℕ) → List ℕ
 page-cell n w ts a = cond (ltb a n) (value-cell w ts a) (spaces (2 * w + 1))
@@ -45,7 +49,12 @@ page-long n w = page-lines n * line-long w
 unfoldable pub cell-place : (w a : ℕ) → ℕ
 cell-place w a = a / 8 * line-long w + 6 + a % 8 * (2 * w + 1)
 
--- what is known of a table that nothing refuses
+-- WHAT WRITERS ASK FOR: values that stand in the table and room for their cells, from place `at` on
+pub record Cells-fit (first count w : ℕ) (table : List ℕ) (at : ℕ) (out : List ℕ) : Type 0 where
+  pub stand : (first + count) * w ≤ length table
+  pub room : at + count * (2 * w + 1) ≤ length out
+
+-- and a table that nothing refuses
 pub record Pageable (n w : ℕ) (table : List ℕ) : Type 0 where
   pub positions-few : n ≤ 65536
   pub bytes-few : w ≤ 16

@@ -5,9 +5,9 @@ ghost use mathlib.Core.List.{_∷_};
 ghost use Prim.Native.Nat.{_+_, _*_, _≤_, _<_, min};
 ghost use lib.ListN.{length};
 ghost use Rattle.writer.specs.Written.{Wrote};
-ghost use Rattle.writer.specs.InARow.{in-a-row};
 ghost use Rattle.digits.specs.Digits.{hex, spaces};
-ghost use Rattle.page.specs.Page.{value-cell, page-line, page-lines, page, line-long, page-long, Pageable};
+ghost use Rattle.page.specs.Page.{value-cells, page-line, page-lines, page, line-long, page-long};
+ghost use Rattle.page.specs.Page.{Cells-fit, Pageable};
 use digits::put_hex;
 use digits::put_in_five_places;
 use writer::put_byte;
@@ -70,9 +70,8 @@ fn put_cells(
     value_bytes: usize,
     table: &[u8],
 ) -> usize
-    requires { ⌜ ((first + count) * «value_bytes» ≤ length (now table))
-        × (at + count * (2 * «value_bytes» + 1) ≤ length (now out)) ⌝ }
-    ensures { λ r. ⌜ Wrote at (in-a-row count first (λ a. value-cell «value_bytes» (now (table .entry)) a)) r
+    requires { ⌜ Cells-fit first count «value_bytes» (now table) at (now out) ⌝ }
+    ensures { λ r. ⌜ Wrote at (value-cells count first «value_bytes» (now (table .entry))) r
         (now (out .entry)) (now (out .exit)) ⌝ }
 {
     let mut next = at;
@@ -97,9 +96,8 @@ fn put_values(
     value_bytes: usize,
     table: &[u8],
 ) -> usize
-    requires { ⌜ ((first + count) * «value_bytes» ≤ length (now table))
-        × (at + count * (2 * «value_bytes» + 1) ≤ length (now out)) ⌝ }
-    ensures { λ r. ⌜ Wrote at (in-a-row count first (λ a. value-cell «value_bytes» (now (table .entry)) a)) r
+    requires { ⌜ Cells-fit first count «value_bytes» (now table) at (now out) ⌝ }
+    ensures { λ r. ⌜ Wrote at (value-cells count first «value_bytes» (now (table .entry))) r
         (now (out .entry)) (now (out .exit)) ⌝ }
 {
     if value_bytes == 1 {

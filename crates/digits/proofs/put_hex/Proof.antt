@@ -32,7 +32,7 @@ loop-again c =
       omega arith,
       low .kept .0 ∙ high .kept .0 ∙ l .inv .1,
       hex-turn (a .at) (l .i) _ _ (now (a .bytes)) (omega arith) (s .pre) (l .inv .2) (high .ensures) (low .ensures)
-      (table-right (byte / 16) _ (omega arith) refl) (table-right (byte % 16) _ (omega arith) refl),
+          (table-right (byte / 16) _ (omega arith) refl) (table-right (byte % 16) _ (omega arith) refl),
     )
 
 loop-holds : tie.Need-loop-holds Inv-loop μ-loop

@@ -9,7 +9,7 @@ use Rattle.writer.specs.Written.{Wrote}
 use Rattle.writer.specs.InARow.{in-a-row}
 use Rattle.writer.proofs.Laws.{wrote-nothing}
 use Rattle.writer.proofs.Cuts.{part-within, part-cut}
-use Rattle.page.specs.Page.{value-at, value-cell}
+use Rattle.page.specs.Page.{value-at, value-cell, value-cells}
 use Rattle.page.proofs.Laws.{cells-turn, next-value, cell-room}
 use Rattle.page.proofs.put_cells.Statement.{statement}
 use Rattle.page.proofs.put_cells.Tie as tie
@@ -17,7 +17,7 @@ use Rattle.page.proofs.put_cells.Tie as tie
 abbrev Inv-loop : tie.InvT-loop
 Inv-loop out₀ at first count value-bytes table next₀ from₀ cell₀ out next from cell =
     (cell ≤ count) × (from ≡ (first + cell) * value-bytes) × (length out ≡ length out₀)
-    × Wrote at (in-a-row cell first (λ a. value-cell value-bytes table a)) next out₀ out
+    × Wrote at (value-cells cell first value-bytes table) next out₀ out
 
 abbrev μ-loop : tie.MeasureT-loop
 μ-loop out₀ at first count value-bytes table next₀ from₀ cell₀ out next from cell = count - cell
@@ -32,8 +32,8 @@ loop-again c =
       omega arith,
       next-value (a .first) (l .cell) (a .value-bytes) (l .from) (l .inv .1),
       put .kept .0 ∙ l .inv .2,
-      cells-turn (a .at) (a .first) (l .cell) (a .count) (a .value-bytes) _ (now (a .table)) (omega arith) (s .pre .0) (s .pre .1) (l .inv .3) (put .ensures)
-      (part-cut (a .first + l .cell) (a .value-bytes) (l .from) (now (a .table)) (l .inv .1)),
+      cells-turn (a .at) (a .first) (l .cell) (a .count) (a .value-bytes) _ (now (a .table)) (omega arith) (s .pre .stand) (s .pre .room) (l .inv .3) (put .ensures)
+          (part-cut (a .first + l .cell) (a .value-bytes) (l .from) (now (a .table)) (l .inv .1)),
     )
 
 returns : tie.Need-returns Inv-loop μ-loop
@@ -41,7 +41,7 @@ returns c =
     let a = c .before .before .before .before .args in
     let l = c .before .loop in
     let all : l .cell ≡ a .count = omega arith in
-    subst (λ (k : ℕ). Wrote (a .at) (in-a-row k (a .first) (λ j. value-cell (a .value-bytes) (now (a .table)) j)) (l .next) (now (a .out)) (l .out))
+    subst (λ (k : ℕ). Wrote (a .at) (value-cells k (a .first) (a .value-bytes) (now (a .table))) (l .next) (now (a .out)) (l .out))
     all (l .inv .3)
 
 -- the value stands in the table
@@ -51,12 +51,12 @@ value-in c =
     let s = c .before .before .before .before in
     let a = s .args in
     let l = c .before .loop in
-    omega (arith, l .inv .1, s .pre .0, part-within (a .first + l .cell) (a .first + a .count) (a .value-bytes) (omega arith))
+    omega (arith, l .inv .1, s .pre .stand, part-within (a .first + l .cell) (a .first + a .count) (a .value-bytes) (omega arith))
 
 mul-from : tie.Need-mul-from Inv-loop μ-loop
 mul-from c =
     let s = c .before .before in
-    omega (arith, s .pre .0, mul-le-mul-right {m = s .args .first} {n = s .args .first + s .args .count} (s .args .value-bytes) (omega arith))
+    omega (arith, s .pre .stand, mul-le-mul-right {m = s .args .first} {n = s .args .first + s .args .count} (s .args .value-bytes) (omega arith))
 
 loop-holds : tie.Need-loop-holds Inv-loop μ-loop
 unfolding in-a-row
@@ -81,8 +81,8 @@ put-cell-requires c κs =
     let s = c .before .before .before .before .before .before in
     let a = s .args in
     let l = c .before .before .before .loop in
-    cell-room (a .at) (a .first) (l .cell) (a .count) (a .value-bytes) (l .from) (l .next) _ (now (a .table)) (omega arith) (s .pre .0)
-    (omega (arith, s .pre .1, l .inv .2)) (l .inv .1) (l .inv .3 .next-is)
+    cell-room (a .at) (a .first) (l .cell) (a .count) (a .value-bytes) (l .from) (l .next) _ (now (a .table)) (omega arith) (s .pre .stand)
+    (omega (arith, s .pre .room, l .inv .2)) (l .inv .1) (l .inv .3 .next-is)
 
 add-cell : tie.Need-add-cell Inv-loop μ-loop
 add-cell c = omega arith

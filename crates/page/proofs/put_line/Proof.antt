@@ -6,10 +6,9 @@ use native.Mathlib.Nat.{mul-le-mul}
 use native.Mathlib.Omega.{arith}
 use lib.ListN.{length}
 use denote.Ref.{now}
-use Rattle.writer.specs.InARow.{in-a-row}
 use Rattle.digits.specs.Digits.{right-aligned}
 use Rattle.digits.proofs.Laws.{aligned-long}
-use Rattle.page.specs.Page.{value-cell, line-long}
+use Rattle.page.specs.Page.{value-cells, line-long}
 use Rattle.page.proofs.Laws.{line-first, first-fits, spaces-long, values-long, line-room, line-wrote}
 use borrow.Author.Needs.{needs}
 use Rattle.page.proofs.put_line.Statement.{statement}
@@ -32,7 +31,7 @@ five c =
     aligned-long 5 (8 * s .args .line) (first-fits (s .args .positions) (s .args .line) (s .pre .0 .positions-few) (s .pre .1))
 
 cells : (c : tie.After-cells-held) → let a = c .before .before .before .args in
-    length (in-a-row (c .cells-held .result) (8 * a .line) (λ j. value-cell (a .value-bytes) (now (a .table)) j))
+    length (value-cells (c .cells-held .result) (8 * a .line) (a .value-bytes) (now (a .table)))
     ≡ c .cells-held .result * (2 * a .value-bytes + 1)
 cells c =
     let a = c .before .before .before .args in
@@ -81,7 +80,7 @@ put-values-requires : tie.Need-put-values-requires
 put-values-requires c κs =
     let number = c .before .before .before .put-in-five-places in
     let held = c .before .before .before .before .before in
-    (known held .0, omega (arith, known held .1, number .ensures .next-is, number .kept .0, five held))
+    record { stand = known held .0; room = omega (arith, known held .1, number .ensures .next-is, number .kept .0, five held) }
 
 cell-length-requires : tie.Need-cell-length-requires
 cell-length-requires c κs = search needs

@@ -38,7 +38,7 @@ loop-again c =
       omega arith,
       put .kept .0 ∙ l .inv .1,
       lines-turn (a .positions) (a .value-bytes) (l .line) (now (a .table)) (s .pre .0)
-      (omega (arith, c .before .before .before .before .before .before .page-lines .ensures)) (s .pre .1) (l .inv .2) (put .ensures),
+          (omega (arith, c .before .before .before .before .before .before .page-lines .ensures)) (s .pre .1) (l .inv .2) (put .ensures),
     )
 
 page-lines-requires : tie.Need-page-lines-requires Inv-loop μ-loop

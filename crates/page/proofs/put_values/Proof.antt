@@ -1,12 +1,10 @@
 -- `page::put_values` meets its contract: either call is `put_cells`. Assumes nothing.
 use mathlib.Core.Path.{_≡_, sym, subst}
-use Prim.Native.Nat.{ℕ, _+_, _*_, _≤_}
+use Prim.Native.Nat.{ℕ}
 use native.Mathlib.Omega.{arith}
-use lib.ListN.{length}
 use denote.Ref.{now}
 use Rattle.writer.specs.Written.{Wrote}
-use Rattle.writer.specs.InARow.{in-a-row}
-use Rattle.page.specs.Page.{value-cell}
+use Rattle.page.specs.Page.{value-cells, Cells-fit}
 use borrow.Author.Needs.{needs}
 use Rattle.page.proofs.put_values.Statement.{statement}
 use Rattle.page.proofs.put_values.Tie as tie
@@ -16,7 +14,7 @@ returns c =
     let a = c .before .before .before .before .before .before .before .args in
     let put = c .before .before .put-cells in
     let one : a .value-bytes ≡ 1 = omega arith in
-    subst (λ (w : ℕ). Wrote (a .at) (in-a-row (a .count) (a .first) (λ j. value-cell w (now (a .table)) j)) (put .result) (now (a .out)) (put .last .0))
+    subst (λ (w : ℕ). Wrote (a .at) (value-cells (a .count) (a .first) w (now (a .table))) (put .result) (now (a .out)) (put .last .0))
     (sym one) (put .ensures)
 
 put-cells-requires : tie.Need-put-cells-requires
@@ -24,7 +22,7 @@ put-cells-requires c κs =
     let s = c .before .before .before .before in
     let a = s .args in
     let one : a .value-bytes ≡ 1 = omega arith in
-    subst (λ (w : ℕ). ((a .first + a .count) * w ≤ length (now (a .table))) × (a .at + a .count * (2 * w + 1) ≤ length (now (a .out)))) one (s .pre)
+    subst (λ (w : ℕ). Cells-fit (a .first) (a .count) w (now (a .table)) (a .at) (now (a .out))) one (s .pre)
 
 same-length : tie.Need-same-length
 same-length c = search needs

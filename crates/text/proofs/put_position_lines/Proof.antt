@@ -69,7 +69,7 @@ loop-again c =
       rw (add-one, suc-mul (l .position) (a .value-bytes), l .inv .1),
       written .kept .0 ∙ l .inv .2,
       lines-turn (a .at) (l .position) (a .positions) (a .value-bytes) _ (now (a .table)) (omega arith)
-      (part-cut (l .position) (a .value-bytes) (l .from) (now (a .table)) (l .inv .1)) (s .pre .1) (l .inv .3) (written .ensures),
+          (part-cut (l .position) (a .value-bytes) (l .from) (now (a .table)) (l .inv .1)) (s .pre .1) (l .inv .3) (written .ensures),
     )
 
 same-length : tie.Need-same-length Inv-loop μ-loop
