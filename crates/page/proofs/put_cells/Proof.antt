@@ -32,7 +32,8 @@ loop-again c =
       omega arith,
       next-value (a .first) (l .cell) (a .value-bytes) (l .from) (l .inv .1),
       put .kept .0 ∙ l .inv .2,
-      cells-turn (a .at) (a .first) (l .cell) (a .count) (a .value-bytes) _ (now (a .table)) (omega arith) (s .pre .stand) (s .pre .room) (l .inv .3) (put .ensures)
+      cells-turn (a .at) (a .first) (l .cell) (a .count) (a .value-bytes) _ (now (a .table)) (omega arith)
+          (s .pre .stand) (s .pre .room) (l .inv .3) (put .ensures)
           (part-cut (a .first + l .cell) (a .value-bytes) (l .from) (now (a .table)) (l .inv .1)),
     )
 
