@@ -95,6 +95,10 @@ extern "C" {
 #define NSG_PAGE_LINE_BYTES(value_bytes) (6u + NSG_PAGE_CELLS * (2u * (value_bytes) + 1u))
 #define NSG_PAGE_BYTES(positions, value_bytes) \
     (((positions) + NSG_PAGE_CELLS - 1u) / NSG_PAGE_CELLS * NSG_PAGE_LINE_BYTES(value_bytes))
+/* Where the digits of a position begin on a page. */
+#define NSG_PAGE_PLACE(position, value_bytes) \
+    ((position) / NSG_PAGE_CELLS * NSG_PAGE_LINE_BYTES(value_bytes) + 6u + \
+     (position) % NSG_PAGE_CELLS * (2u * (value_bytes) + 1u))
 
 /* A key's length is what nsg_key_length gives. These are the largest there are: one key, all players' keys, a table, a
    deck, a page. */
@@ -239,8 +243,7 @@ uint32_t nsg_join_keys(const uint8_t *keys, uint64_t keys_length, uint8_t *out, 
          0 00 01 02 03 04 05 06 07
          8 08 09
    Every line is NSG_PAGE_LINE_BYTES(value_bytes) bytes long, so a cell is found by its line and column alone: the
-   digits of position a begin at byte a / 8 * NSG_PAGE_LINE_BYTES(value_bytes) + 6 + a % 8 * (2 * value_bytes + 1). All
-   bytes are ASCII, and no zero byte ends the page. It tells the whole table: a player's own is noise, the joined one
+   digits of position a begin at byte NSG_PAGE_PLACE(a, value_bytes). All bytes are ASCII, and no zero byte ends the page. It tells the whole table: a player's own is noise, the joined one
    shows where the piece is.
      table   NSG_TABLE_BYTES(positions, value_bytes) bytes, as nsg_join_keys or nsg_open_all writes them.
    Refusals, in this order: 2; 4; 7 table of another length; 9 output under NSG_PAGE_BYTES(positions, value_bytes).

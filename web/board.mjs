@@ -1,5 +1,5 @@
-// A table of squares as the page shows it: lines of eight under their headings, zeros as dots, the piece. It makes elements and tells where a
-// pressed key leads; what is shown where is the page's.
+// A table of squares as the web page shows it: lines of eight under their headings, zeros as dots, the piece. It makes elements and tells where a
+// pressed key leads; what is shown where is the web page's.
 import { capital, make } from './elements.mjs';
 import { entry, hexadecimal, SQUARES_IN_A_LINE, squareWords } from './match.mjs';
 

@@ -1,4 +1,4 @@
-// Elements of a page and words in them: the little that the page's modules share.
+// Elements of the web page and words in them: the little that its modules share.
 
 export function element(id) {
     return document.getElementById(id);

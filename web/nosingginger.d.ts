@@ -180,9 +180,9 @@ export class Nosingginger {
     /**
      * WRITE PAGE: an opened table as a page to be pinned up, a string of ASCII, in lines of eight squares. A line is
      * its first position in five places, right-aligned; for each square a space and 2 × valueBytes upper-case
-     * hexadecimal digits, byte 0 first, or as many spaces where the board has no such square; and a line feed. So every
-     * line has 6 + 8 × (2 × valueBytes + 1) characters, and the digits of position a begin at character
-     * 6 + (a % 8) × (2 × valueBytes + 1) of line ⌊a / 8⌋, both from 0 on. The table has positions × valueBytes bytes,
+     * hexadecimal digits, byte 0 first and of a byte the high digit, or as many spaces where the board has no such
+     * square; and a line feed. So every line has 6 + 8 × (2 × valueBytes + 1) characters, and the digits of position a
+     * begin at character 6 + (a % 8) × (2 × valueBytes + 1) of line ⌊a / 8⌋, both from 0 on. The table has positions × valueBytes bytes,
      * as openAll and joinKeys give it. Refusals: 2, 4, 7.
      */
     writePage(positions: number, valueBytes: number, table: Uint8Array): string;

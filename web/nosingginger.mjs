@@ -299,9 +299,9 @@ export class Nosingginger {
 
     /**
      * WRITE PAGE: an opened table as a page to be pinned up, in lines of eight squares. A line is its first position in
-     * five places, right-aligned; for each square a space and 2 × valueBytes upper-case hexadecimal digits, byte 0
-     * first, or as many spaces where the board has no such square; and a line feed. So every line has
-     * 6 + 8 × (2 × valueBytes + 1) characters, and the digits of position a begin at character
+     * five places, right-aligned; for each square a space and 2 × valueBytes upper-case hexadecimal digits, byte 0 first
+     * and of a byte the high digit, or as many spaces where the board has no such square; and a line feed. So every line
+     * has 6 + 8 × (2 × valueBytes + 1) characters, and the digits of position a begin at character
      * 6 + (a % 8) × (2 × valueBytes + 1) of line ⌊a / 8⌋, both from 0 on. Refusals: 2; 4; 7 where the table is not
      * positions × valueBytes bytes.
      * @param {number} positions
@@ -312,7 +312,7 @@ export class Nosingginger {
     writePage(positions, valueBytes, table) {
         u32(positions, 'positions');
         u32(valueBytes, 'valueBytes');
-        // A longer table than there is is refused: what it has past that is not copied.
+        // A table longer than the largest is refused whatever it holds, so the rest of it is not copied.
         const inputs = [bytes(table, 'table').subarray(0, MOST_POSITIONS * MOST_VALUE_BYTES + 1)];
         const page = new Uint8Array(pageBytes(positions, valueBytes));
         const [written] = this.#write(inputs, page, (lent, output, [told]) =>
@@ -475,6 +475,6 @@ function tableBytes({ positions, valueBytes }) {
 
 /** The bytes of a board's page; 0 where there is no such board, which is refused and needs no room. */
 function pageBytes(positions, valueBytes) {
-    if (positions > MOST_POSITIONS || valueBytes > MOST_VALUE_BYTES) return 0;
+    if (positions > MOST_POSITIONS || valueBytes < 1 || valueBytes > MOST_VALUE_BYTES) return 0;
     return Math.ceil(positions / SQUARES_IN_A_LINE) * (6 + SQUARES_IN_A_LINE * (2 * valueBytes + 1));
 }

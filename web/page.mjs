@@ -1,4 +1,4 @@
-// The page that reopens a match: it reads keys, asks the library, and shows what it answers. Assumes page.html's elements.
+// The web page that reopens a match: it reads keys, asks the library, and shows what it answers. Assumes page.html's elements.
 import { loadBase64 } from './nosingginger.mjs';
 import { randomDealing } from './draw.mjs';
 import { fingerprint } from './fingerprint.mjs';

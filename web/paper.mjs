@@ -60,6 +60,7 @@ export function putOnPaper(page, board, piece, heading) {
 
 /** Nothing is joined: there is no board to be printed. */
 export function clearPaper() {
+    for (const id of ['paper-heading', 'paper-finding', 'paper-columns']) say(id, '');
     element('paper-page').replaceChildren();
     document.body.classList.remove('sideways');
 }

@@ -114,7 +114,7 @@ test('README.md\u2019s draw of a card runs in an app', async () => {
 
 test('README.md\u2019s board on a page runs in an app, and the piece is read back from it', async () => {
     const program = shown('js page');
-    const [, count, length] = /\/\/ (\w+) lines of (\d+) characters$/m.exec(program);
+    const [, count, length] = /\/\/ (\w+) lines of (\d+) characters, line feeds among them$/m.exec(program);
     assert.equal(count, 'nine');
     for (let times = 0; times < 3; times += 1) {
         const lines = (await runInApp('page.mjs', program)).split('\n');

@@ -693,7 +693,7 @@ onPage('on paper without a joined board: what is there, and no board of an earli
     for (const words of ['Player 0\u2019s key is missing.', 'The keys', 'Three of four keys are here.',
         'Player 0 missing', ...keys.slice(1).map(fingerprint)]) assert.ok(waiting.includes(words), words);
     assert.ok(!waiting.includes('first'));
-    assert.equal(await page.text('#paper-page'), '');
+    assert.equal((await page.text('#paper')).trim(), '');
     for (const times of [1, 2]) {
         await page.send('Emulation.setEmulatedMedia', { media: 'print' });
         assert.deepEqual(await controlsShown(page), []);

@@ -696,7 +696,7 @@ test('the largest page: the memory grows to it once, holds nothing afterwards, a
     const own = new Nosingginger(instance);
     const start = memory.buffer.byteLength;
     // Refusals need no room for a page.
-    for (const [positions, valueBytes] of [[0xFFFFFFFF, 16], [65536, 0xFFFFFFFF], [65537, 16], [65536, 17]]) {
+    for (const [positions, valueBytes] of [[0xFFFFFFFF, 16], [65536, 0xFFFFFFFF], [65537, 16], [65536, 17], [65536, 0]]) {
         assert.throws(() => own.writePage(positions, valueBytes, filled(10)), Refused);
     }
     assert.ok(memory.buffer.byteLength <= start + 2 ** 16);

@@ -1,4 +1,4 @@
-// The sentences that the page and the hunt both say, so that both say the same. What stands between the braces is JSON: demo/match.py reads it
+// The sentences that the web page and the hunt both say, so that both say the same. What stands between the braces is JSON: demo/match.py reads it
 // too. A name in braces inside a sentence is put in by whoever says it.
 export const WORDS = {
     "piece": "The piece lies on {place}. Its value is {value}.",

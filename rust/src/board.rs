@@ -216,6 +216,7 @@ impl InRange {
 /// assert_eq!(page_len(72, 17), Err(Refusal::ValueBytes));
 /// ```
 pub fn page_len(positions: u32, value_bytes: u32) -> Result<usize, Refusal> {
-    // Players and width matter to no page, and these are refused with no positions.
+    // No page depends on players or width. With these two, every number of positions in its range has few enough grid
+    // rows.
     Board { players: LEAST_PLAYERS, positions, width: MOST_WIDTH, value_bytes }.page_len()
 }

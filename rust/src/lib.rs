@@ -268,11 +268,14 @@ pub fn join_keys(keys: &[u8], table: &mut [u8]) -> Result<(), Refusal> {
 
 /// **Write page**: writes a table as lines of text, to be printed and pinned up, and gives how many bytes that are:
 /// [`page_len`]. A line has eight positions: the first of them in five places, right-aligned with spaces; for each a
-/// space and its entry in 2 × value_bytes upper-case hexadecimal digits, byte 0 first; as many spaces for each cell past
-/// the last position; a line feed. All bytes are ASCII.
+/// space and its entry in 2 × value_bytes upper-case hexadecimal digits, byte 0 first and of a byte the high digit; as
+/// many spaces for each cell past the last position; a line feed. All bytes are ASCII.
 ///
 /// Every line is equally long, 6 + 8 × (2 × value_bytes + 1) bytes, so a cell is found by its line and column alone: the
 /// digits of position a begin at (a div 8) × line + 6 + (a mod 8) × (2 × value_bytes + 1).
+///
+/// Each digit is looked up, so that addresses in memory depend on the table. A page shows its table to everybody who
+/// reads it: a table that nobody may see is not for a page.
 ///
 /// Refuses [`Positions`](Refusal::Positions), [`ValueBytes`](Refusal::ValueBytes) for value_bytes that are not 1 to
 /// [`MOST_VALUE_BYTES`], [`Lent`](Refusal::Lent) for a table that is not positions × value_bytes bytes,

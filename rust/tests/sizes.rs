@@ -155,8 +155,12 @@ fn a_page_has_this_length_and_no_other() {
             }
             Err(refusal) => assert_eq!([write(0), write(100)], [Err(refusal); 2], "{positions}, {value_bytes}"),
         }
-        for board in [2, 6].map(|players| Board { players, positions, width: 256, value_bytes }) {
-            assert_eq!(board.page_len(), length, "{board:?}");
+        // A board has the page of its table, whatever its players and its width.
+        for (players, width) in [(2, 256), (4, 24), (6, 1)] {
+            let board = Board { players, positions, width, value_bytes };
+            if key_length(board) != Err(Refusal::GridRows) {
+                assert_eq!(board.page_len(), length, "{board:?}");
+            }
         }
     }
     assert_eq!(page_len(MOST_POSITIONS, MOST_VALUE_BYTES), Ok(MOST_PAGE_BYTES));

@@ -362,7 +362,8 @@ static unsigned digit_at(const uint8_t *at)
 /* Reads the entry of a position off a page, by its line and column alone. */
 static void read_entry(const uint8_t *page, uint32_t position, uint32_t width, uint8_t *entry)
 {
-    const uint8_t *at = page + position / 8 * NSG_PAGE_LINE_BYTES(width) + 6 + position % 8 * (2 * width + 1);
+    const uint8_t *at = page + position / 8 * (6 + 8 * (2 * width + 1)) + 6 + position % 8 * (2 * width + 1);
+    CHECK(at == page + NSG_PAGE_PLACE(position, width));
     for (uint32_t i = 0; i < width; i++, at += 2)
         entry[i] = (uint8_t)(16 * digit_at(at) + digit_at(at + 1));
 }

@@ -9,7 +9,7 @@ use lib.Dec.{T, ltb, eqb, eqb→eq}
 use lib.ListN.{length, getD, take, replicate, length-append, length-replicate, replicate-append-replicate}
 use lib.Seq.{length-take-le}
 use borrow.Author.Tests.{lt-ltb, le-ltb, ltb-true, ltb-false, eq-eqb, ne-eqb}
-use Rattle.grid.proofs.Table.{at, every}
+use Rattle.xor.proofs.Table.{at, every}
 use Rattle.writer.specs.Written.{Wrote}
 use Rattle.writer.proofs.Laws.{wrote-then, wrote-more}
 use Rattle.digits.specs.Digits.{digits, decimal, spaces, right-aligned, hex-digit, hex}

@@ -1,5 +1,6 @@
 -- Reading digits back: what somebody does who reads a page, a number by its decimal digits and bytes by their
--- hexadecimal ones. Assumes nothing: these are definitions.
+-- hexadecimal ones. Bytes that are no digits are read as something too, a space as 0 or nothing: that digits stand
+-- there is said apart. Assumes nothing: these are definitions.
 use mathlib.Core.Bool.{cond}
 use mathlib.Core.List.{List, [], _∷_}
 use Prim.Native.Nat.{ℕ, _+_, _*_, _-_}

@@ -22,7 +22,7 @@ pub fn put_decimal(out: &mut [u8], at: usize, number: u32) -> usize
     put_byte(out, next, (48 + number % 10) as u8)
 }
 
-// The last digit of what stands before a place, or a space where nothing does.
+// What stands in a place, by what the number is from that place up: its last digit, or a space where nothing is left.
 fn digit_or_space(number: u32) -> u8
     ensures { λ r. ⌜ r ≡ cond (eqb number 0) 32 (48 + number % 10) ⌝ }
 {

@@ -17,5 +17,4 @@ pub mod Refusing
 pub mod Sensors
 pub mod Sizes
 pub mod Sums
-pub mod Table
 pub mod Widths

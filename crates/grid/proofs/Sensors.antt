@@ -7,7 +7,7 @@ use Prim.Native.Nat.{ℕ, _<_}
 use lib.Dec.{T, eqb, eqb→eq}
 use lib.ListN.{length, getD}
 use Rattle.grid.specs.Width.{sensor-position}
-use Rattle.grid.proofs.Table.{at, every}
+use Rattle.xor.proofs.Table.{at, every}
 
 -- an entry is right that is its sensor's position
 abbrev pub right : ℕ → ℕ → Bool

@@ -17,7 +17,7 @@ use Rattle.writer.proofs.InARow.{row-same, row-long, row-split, row-next, row-r
 use Rattle.writer.proofs.Cuts.{part-within, part-cut}
 use Rattle.digits.specs.Digits.{hex, spaces, right-aligned, decimal}
 use Rattle.digits.proofs.Laws.{hex-long, decimal-five, aligned-long}
-use Rattle.page.specs.Page.{value-at, value-cell, value-cells, page-cell, page-line, page-lines, page, line-long, page-long, Pageable}
+use Rattle.page.specs.Page.{entry-at, value-cell, value-cells, page-cell, page-line, page-lines, page, line-long, page-long, Pageable}
 
 -- CELLS
 
@@ -33,13 +33,13 @@ pub spaces-long : (k : ℕ) → length (spaces k) ≡ k
 unfolding spaces
 spaces-long k = length-replicate {A = ℕ} k 32
 
-pub value-long : (w : ℕ) (ts : List ℕ) (a : ℕ) → a * w + w ≤ length ts → length (value-at w ts a) ≡ w
-unfolding value-at
+pub value-long : (w : ℕ) (ts : List ℕ) (a : ℕ) → a * w + w ≤ length ts → length (entry-at w ts a) ≡ w
+unfolding entry-at
 value-long w ts a h = length-take-le w (drop (a * w) ts) (rw length-drop (omega arith))
 
 pub value-cell-long : (w : ℕ) (ts : List ℕ) (a : ℕ) → a * w + w ≤ length ts → length (value-cell w ts a) ≡ 2 * w + 1
 unfolding value-cell
-value-cell-long w ts a h = omega (arith, hex-long (value-at w ts a), value-long w ts a h)
+value-cell-long w ts a h = omega (arith, hex-long (entry-at w ts a), value-long w ts a h)
 
 -- the cells of values that stand in the table
 pub values-long : (k first count w : ℕ) (ts : List ℕ) → k ≤ count → (first + count) * w ≤ length ts →
@@ -83,9 +83,9 @@ module _ (n w : ℕ) (ts : List ℕ) (fits : Pageable n w ts) where
       three-length (right-aligned 5 (8 * l)) (in-a-row 8 (8 * l) (λ a. page-cell n w ts a)) _
       ∙ omega (arith, aligned-long 5 (8 * l) (first-fits n l (fits .positions-few) h), cells-long n w ts (fits .whole) 8 (8 * l))
 
-  pub page-is-long : length (page n w ts) ≡ page-long n w
+  pub page-is-so-long : length (page n w ts) ≡ page-long n w
   unfolding page page-long
-  page-is-long = row-long (line-long w) (page-lines n) 0 (λ l. page-line n w ts l) (λ j p q. line-is-long j (omega arith))
+  page-is-so-long = row-long (line-long w) (page-lines n) 0 (λ l. page-line n w ts l) (λ j p q. line-is-long j (omega arith))
 
 -- the cells of a line as they are written
 pub cells-split : (n w : ℕ) (ts : List ℕ) (first held past : ℕ) → first < n → held ≡ min 8 (n - first) → past ≡ 8 - held →
@@ -106,7 +106,7 @@ cells-split n w ts first held past some h p =
 -- one cell more
 pub cells-turn : (at first cell count w : ℕ) {next after : ℕ} (value ts : List ℕ) {old between now : List ℕ} → cell < count →
     (first + count) * w ≤ length ts → at + count * (2 * w + 1) ≤ length old → Wrote at (value-cells cell first w ts) next old between →
-    Wrote next (32 ∷ hex value) after between now → value ≡ value-at w ts (first + cell) →
+    Wrote next (32 ∷ hex value) after between now → value ≡ entry-at w ts (first + cell) →
     Wrote at (value-cells (cell + 1) first w ts) after old now
 unfolding value-cell
 cells-turn at first cell count w value ts within whole room p q is =
@@ -125,7 +125,7 @@ next-value first cell w from e =
 pub cell-room : (at first cell count w from next room : ℕ) (ts : List ℕ) → cell < count → (first + count) * w ≤ length ts →
     at + count * (2 * w + 1) ≤ room → from ≡ (first + cell) * w → next ≡ at + length (value-cells cell first w ts) →
     next + 1 + length (hex (take (from + w - from) (drop from ts))) ≤ room
-unfolding value-at
+unfolding entry-at
 cell-room at first cell count w from next room ts within whole fits e behind =
     let long = value-long w ts (first + cell) (omega (arith, part-within (first + cell) (first + count) w (omega arith))) in
     rw (part-cut (first + cell) w from ts e)

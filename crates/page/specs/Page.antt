@@ -9,13 +9,13 @@ use lib.ListN.{length, take, drop}
 use Rattle.writer.specs.InARow.{in-a-row}
 use Rattle.digits.specs.Digits.{hex, spaces, right-aligned}
 
--- 01: "entry a of a table is the w bytes from a × w on"
-unfoldable pub value-at : (w : ℕ) → (table : List ℕ) → (a : ℕ) → List ℕ
-value-at w ts a = take w (drop (a * w) ts)
+-- 01: "entry a of a table is the w bytes from a × w on", for a width alone; `entry` of the crate keys takes a board
+unfoldable pub entry-at : (w : ℕ) → (table : List ℕ) → (a : ℕ) → List ℕ
+entry-at w ts a = take w (drop (a * w) ts)
 
 -- a value's cell: "one space and 2 × w upper-case hexadecimal digits"
 unfoldable pub value-cell : (w : ℕ) → (table : List ℕ) → (a : ℕ) → List ℕ
-value-cell w ts a = 32 ∷ hex (value-at w ts a)
+value-cell w ts a = 32 ∷ hex (entry-at w ts a)
 
 -- those of so many positions from `first` on
 abbrev pub value-cells : (count first w : ℕ) → (table : List ℕ) → List ℕ
@@ -45,16 +45,16 @@ line-long w = 6 + 8 * (2 * w + 1)
 unfoldable pub page-long : (n w : ℕ) → ℕ
 page-long n w = page-lines n * line-long w
 
--- where a cell's digits begin, "by its line and column alone"
-unfoldable pub cell-place : (w a : ℕ) → ℕ
-cell-place w a = a / 8 * line-long w + 6 + a % 8 * (2 * w + 1)
+-- where the digits of a cell begin, "by its line and column alone"
+unfoldable pub digits-place : (w a : ℕ) → ℕ
+digits-place w a = a / 8 * line-long w + 6 + a % 8 * (2 * w + 1)
 
 -- WHAT WRITERS ASK FOR: values that stand in the table and room for their cells, from place `at` on
 pub record Cells-fit (first count w : ℕ) (table : List ℕ) (at : ℕ) (out : List ℕ) : Type 0 where
   pub stand : (first + count) * w ≤ length table
   pub room : at + count * (2 * w + 1) ≤ length out
 
--- and a table that nothing refuses
+-- and a table that is whole, with numbers that are not too large, as every one is that nothing refuses
 pub record Pageable (n w : ℕ) (table : List ℕ) : Type 0 where
   pub positions-few : n ≤ 65536
   pub bytes-few : w ≤ 16

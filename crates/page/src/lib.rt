@@ -31,12 +31,15 @@ fn cell_length(value_bytes: usize) -> usize
     2 * value_bytes + 1
 }
 
-// The bytes of a page: five places, the cells and the line feed of each line.
+// The five places of a line's first position, and its line feed.
+const PLACES_AND_LINE_FEED: usize = 6;
+
+// The bytes of a page: those of a line, for each line.
 pub fn page_length(positions: usize, value_bytes: usize) -> usize
     requires { ⌜ (positions ≤ 65536) × («value_bytes» ≤ 16) ⌝ }
     ensures { λ r. ⌜ r ≡ page-long positions «value_bytes» ⌝ }
 {
-    page_lines(positions) * (6 + LINE_CELLS * cell_length(value_bytes))
+    page_lines(positions) * (PLACES_AND_LINE_FEED + LINE_CELLS * cell_length(value_bytes))
 }
 
 // Writes so many spaces.
@@ -86,8 +89,8 @@ fn put_cells(
     next
 }
 
-// The same. Values of one byte, which most boards have, are gone over by a copy of the loop in which the compiler knows
-// their width.
+// Writes so many cells, as put_cells does: values of one byte, which most boards have, go through a copy of its loop in
+// which the compiler knows their length.
 fn put_values(
     out: &mut [u8],
     at: usize,

@@ -8,7 +8,7 @@ use lib.Dec.{eqb}
 use lib.ListN.{length}
 use Rattle.writer.specs.Written.{in-front}
 use Rattle.page.specs.Page.{page, page-long, Pageable}
-use Rattle.page.proofs.Laws.{page-is-long}
+use Rattle.page.proofs.Laws.{page-is-so-long}
 use Rattle.call_answers.specs.Answers.{says, page-refusal, Page-says}
 use Rattle.call_answers.specs.declared.Answer.{Answer}
 use Rattle.call_answers.proofs.Putting.{put}
@@ -29,7 +29,7 @@ page-written n w ts r out out-now h none =
     let zero-it-is : number ≡ 0 = sym (h .0 .0) ∙ none in
     let fit = page-fits n w (length out) ts zero-it-is in
     let value : r .value ≡ page-long n w = subst (λ (m : ℕ). r .value ≡ cond (eqb m 0) (page-long n w) 0) zero-it-is (h .0 .1) in
-    let long = page-is-long n w ts (fit .0) in
+    let long = page-is-so-long n w ts (fit .0) in
     record {
       fits = fit .0;
       told = value;

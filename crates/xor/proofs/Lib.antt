@@ -1,3 +1,4 @@
 pub mod Laws
 pub mod Walks
 pub mod Writing
+pub mod Table

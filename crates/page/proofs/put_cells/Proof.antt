@@ -9,7 +9,7 @@ use Rattle.writer.specs.Written.{Wrote}
 use Rattle.writer.specs.InARow.{in-a-row}
 use Rattle.writer.proofs.Laws.{wrote-nothing}
 use Rattle.writer.proofs.Cuts.{part-within, part-cut}
-use Rattle.page.specs.Page.{value-at, value-cell, value-cells}
+use Rattle.page.specs.Page.{entry-at, value-cell, value-cells}
 use Rattle.page.proofs.Laws.{cells-turn, next-value, cell-room}
 use Rattle.page.proofs.put_cells.Statement.{statement}
 use Rattle.page.proofs.put_cells.Tie as tie
@@ -23,7 +23,7 @@ abbrev μ-loop : tie.MeasureT-loop
 μ-loop out₀ at first count value-bytes table next₀ from₀ cell₀ out next from cell = count - cell
 
 loop-again : tie.Need-loop-again Inv-loop μ-loop
-unfolding value-at
+unfolding entry-at
 loop-again c =
     let s = c .before .before .before .before .before .before .before .before .before in
     let a = s .args in

@@ -6,7 +6,7 @@ use lib.ListN.{length}
 use denote.Ref.{now}
 use Rattle.writer.proofs.Laws.{written-front}
 use Rattle.page.specs.Page.{page, page-long, Pageable}
-use Rattle.page.proofs.Laws.{page-is-long, page-most}
+use Rattle.page.proofs.Laws.{page-is-so-long, page-most}
 use Rattle.call_answers.proofs.Paging.{page-fits, page-refused, page-given}
 use borrow.Author.Needs.{needs}
 use Rattle.page_call.proofs.write_page.Statement.{statement}
@@ -32,7 +32,7 @@ returns-2 c =
     let text = page (a .positions) (a .value-bytes) (now (a .table)) in
     let told = c .accepted .ensures in
     page-given _ _ _ _ _ _ (sym (e .before .page-refusal .ensures) ∙ e .if1 .left) (told .0)
-    (omega (arith, told .1, put .next-is, page-is-long (a .positions) (a .value-bytes) (now (a .table)) (fit e .0)))
+    (omega (arith, told .1, put .next-is, page-is-so-long (a .positions) (a .value-bytes) (now (a .table)) (fit e .0)))
     (put .now-is ∙ written-front text (now (a .output)))
 
 page-refusal-requires : tie.Need-page-refusal-requires
@@ -51,7 +51,7 @@ cast-accepted c =
     let a = e .before .before .before .before .args in
     let fits = fit e .0 in
     let most = page-most (a .positions) (a .value-bytes) (fits .positions-few) (fits .bytes-few) in
-    omega (arith, put .next-is, page-is-long (a .positions) (a .value-bytes) (now (a .table)) fits)
+    omega (arith, put .next-is, page-is-so-long (a .positions) (a .value-bytes) (now (a .table)) fits)
 
 accepted-requires : tie.Need-accepted-requires
 accepted-requires c κs = search needs

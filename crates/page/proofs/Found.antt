@@ -1,4 +1,4 @@
--- What a reader finds on a page: terms of the statements of specs/Reader.antt. A line is found among lines of one length,
+-- What a reader finds on a page: terms of the statements of specs/Found.antt. A line is found among lines of one length,
 -- a cell among a line's cells, and what was written is read back. Assumes nothing.
 use mathlib.Core.Path.{_≡_, refl, sym, ap, _∙_, subst}
 use mathlib.Core.Bool.{Bool, true, false, cond}
@@ -18,10 +18,10 @@ use Rattle.digits.specs.Digits.{hex, spaces, right-aligned}
 use Rattle.digits.specs.Reading.{number-read, hex-read}
 use Rattle.digits.proofs.Laws.{hex-long, aligned-long}
 use Rattle.digits.proofs.Reading.{aligned-read, hex-back}
-use Rattle.page.specs.Page.{value-at, value-cell, page-cell, page-line, page-lines, page, line-long, page-long, cell-place, Pageable}
-use Rattle.page.specs.Reader.{Page-is-long, digits-at, Cells-found, Cells-read, Past-blank, Cells-apart, Lines-end, Lines-numbered, Page-tells}
+use Rattle.page.specs.Page.{entry-at, value-cell, page-cell, page-line, page-lines, page, line-long, page-long, digits-place, Pageable}
+use Rattle.page.specs.Found.{Lines-long, Page-is-long, digits-at, Cells-found, Cells-read, Past-blank, Cells-apart, Lines-end, Numbers-found, Lines-numbered, Page-tells}
 use Rattle.page.proofs.Laws.{page-cell-here, page-cell-past, spaces-long, page-cell-long, cells-long, value-long, line-first, first-fits}
-use Rattle.page.proofs.Laws.{line-is-long, page-is-long}
+use Rattle.page.proofs.Laws.{line-is-long, page-is-so-long}
 
 -- what stands at a place in front
 front-part : (from count : ℕ) (xs ys : List ℕ) → from + count ≤ length xs → take count (drop from (xs ++ ys)) ≡ take count (drop from xs)
@@ -41,7 +41,7 @@ module _ (n w : ℕ) (ts : List ℕ) (fits : Pageable n w ts) where
   unfolding page-long
   in-line l from count h inside =
       sym (part-of-part from count (l * line-long w) (line-long w) (page n w ts) inside
-      (omega (arith, page-is-long n w ts fits, part-within l (page-lines n) (line-long w) h)))
+      (omega (arith, page-is-so-long n w ts fits, part-within l (page-lines n) (line-long w) h)))
       ∙ ap (λ (xs : List ℕ). take count (drop from xs)) (line-found l h)
 
   -- a cell inside its line
@@ -77,30 +77,34 @@ module _ (n w : ℕ) (ts : List ℕ) (fits : Pageable n w ts) where
       ∙ ap (λ (xs : List ℕ). take count (drop from xs)) (cell-in-line l c before column ∙ ap (λ (b : ℕ). page-cell n w ts b) same)
 
   digits-in-cell : (a : ℕ) → a < 8 * page-lines n → digits-at w (page n w ts) a ≡ take (2 * w) (drop 1 (page-cell n w ts a))
-  unfolding digits-at cell-place
+  unfolding digits-at digits-place
   digits-in-cell a h = in-cell a 1 (2 * w) (a / 8 * line-long w + 6 + a % 8 * (2 * w + 1)) h (omega arith) (omega arith)
 
   on-page : (a : ℕ) → a < n → a < 8 * page-lines n
   unfolding page-lines
   on-page a h = omega arith
 
-pub page-is-long-term : Page-is-long
+pub lines-long : Lines-long
+unfolding Lines-long
+lines-long n w ts l fits h = line-is-long n w ts fits l h
+
+pub page-is-long : Page-is-long
 unfolding Page-is-long
-page-is-long-term n w ts fits = page-is-long n w ts fits
+page-is-long n w ts fits = page-is-so-long n w ts fits
 
 pub cells-found : Cells-found
 unfolding Cells-found value-cell
 cells-found n w ts a fits h =
     digits-in-cell n w ts fits a (on-page n w ts fits a h) ∙ ap (λ (xs : List ℕ). take (2 * w) (drop 1 xs)) (page-cell-here n w ts a h)
-    ∙ take-all (2 * w) (hex (value-at w ts a)) (omega (arith, hex-long (value-at w ts a), value-long w ts a (omega (arith, fits .whole, part-within a n w h))))
+    ∙ take-all (2 * w) (hex (entry-at w ts a)) (omega (arith, hex-long (entry-at w ts a), value-long w ts a (omega (arith, fits .whole, part-within a n w h))))
 
-good-value : (w : ℕ) (ts : List ℕ) (a : ℕ) → bytes-good ts ≡ true → bytes-good (value-at w ts a) ≡ true
-unfolding value-at
+good-value : (w : ℕ) (ts : List ℕ) (a : ℕ) → bytes-good ts ≡ true → bytes-good (entry-at w ts a) ≡ true
+unfolding entry-at
 good-value w ts a g = good-take w (drop (a * w) ts) (good-drop (a * w) ts g)
 
 pub cells-read : Cells-read
 unfolding Cells-read Cells-found
-cells-read n w ts a fits g h = ap hex-read (cells-found n w ts a fits h) ∙ hex-back (value-at w ts a) (good-value w ts a g)
+cells-read n w ts a fits g h = ap hex-read (cells-found n w ts a fits h) ∙ hex-back (entry-at w ts a) (good-value w ts a g)
 
 pub past-blank : Past-blank
 unfolding Past-blank spaces
@@ -116,12 +120,12 @@ space-first n w ts a =
     let more : 2 * w + 1 ≡ suc (2 * w) = omega arith in
     rw more (go (ltb a n))
   where
-    go : (t : Bool) → take 1 (drop 0 (cond t (32 ∷ hex (value-at w ts a)) (replicate (suc (2 * w)) 32))) ≡ 32 ∷ []
+    go : (t : Bool) → take 1 (drop 0 (cond t (32 ∷ hex (entry-at w ts a)) (replicate (suc (2 * w)) 32))) ≡ 32 ∷ []
     go true = refl
     go false = refl
 
 pub cells-apart : Cells-apart
-unfolding Cells-apart cell-place
+unfolding Cells-apart digits-place
 cells-apart n w ts a fits h =
     in-cell n w ts fits a 0 1 (a / 8 * line-long w + 6 + a % 8 * (2 * w + 1) - 1) h (omega arith) (omega arith) ∙ space-first n w ts a
 
@@ -134,17 +138,20 @@ lines-end n w ts l fits h =
     ∙ omega (arith, aligned-long 5 (8 * l) (first-fits n l (fits .positions-few) h), cells-long n w ts (fits .whole) 8 (8 * l)) in
     in-line n w ts fits l (6 + 8 * (2 * w + 1) - 1) 1 h (omega arith) ∙ ap (take 1) (drop-at front (10 ∷ []) (6 + 8 * (2 * w + 1) - 1) long)
 
-pub lines-numbered : Lines-numbered
-unfolding Lines-numbered page-line line-long
-lines-numbered n w ts l fits h =
+pub numbers-found : Numbers-found
+unfolding Numbers-found page-line line-long
+numbers-found n w ts l fits h =
     let number = right-aligned 5 (8 * l) in
-    let five = aligned-long 5 (8 * l) (first-fits n l (fits .positions-few) h) in
     let rest = in-a-row 8 (8 * l) (λ a. page-cell n w ts a) in
     let first : l * (6 + 8 * (2 * w + 1)) + 0 ≡ l * (6 + 8 * (2 * w + 1)) = omega arith in
-    ap number-read
-    (ap (λ (p : ℕ). take 5 (drop p (page n w ts))) (sym first) ∙ in-line n w ts fits l 0 5 h (omega arith)
-    ∙ ap (take 5) (append-assoc number rest (10 ∷ [])) ∙ take-at number (rest ++ (10 ∷ [])) 5 five)
-    ∙ aligned-read 5 (8 * l) (omega (arith, fits .positions-few, line-first n l h))
+    ap (λ (p : ℕ). take 5 (drop p (page n w ts))) (sym first) ∙ in-line n w ts fits l 0 5 h (omega arith)
+    ∙ ap (take 5) (append-assoc number rest (10 ∷ []))
+    ∙ take-at number (rest ++ (10 ∷ [])) 5 (aligned-long 5 (8 * l) (first-fits n l (fits .positions-few) h))
+
+pub lines-numbered : Lines-numbered
+unfolding Lines-numbered Numbers-found
+lines-numbered n w ts l fits h =
+    ap number-read (numbers-found n w ts l fits h) ∙ aligned-read 5 (8 * l) (omega (arith, fits .positions-few, line-first n l h))
 
 -- tables whose entries are equal are equal
 same-entries : (n w : ℕ) (ts us : List ℕ) → length ts ≡ n * w → length us ≡ n * w →
@@ -163,7 +170,7 @@ same-entries (suc n) w ts us e f h =
     sym (take-append-drop w ts) ∙ rw (first, others) (take-append-drop w us)
 
 pub page-tells : Page-tells
-unfolding Page-tells Cells-read value-at
+unfolding Page-tells Cells-read entry-at
 page-tells n w ts us fits also good fine same =
     same-entries n w ts us (fits .whole) (also .whole)
     (λ a h. sym (cells-read n w ts a fits good h) ∙ ap (λ (text : List ℕ). hex-read (digits-at w text a)) same ∙ cells-read n w us a also fine h)
