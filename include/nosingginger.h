@@ -243,8 +243,8 @@ uint32_t nsg_join_keys(const uint8_t *keys, uint64_t keys_length, uint8_t *out, 
          0 00 01 02 03 04 05 06 07
          8 08 09
    Every line is NSG_PAGE_LINE_BYTES(value_bytes) bytes long, so a cell is found by its line and column alone: the
-   digits of position a begin at byte NSG_PAGE_PLACE(a, value_bytes). All bytes are ASCII, and no zero byte ends the page. It tells the whole table: a player's own is noise, the joined one
-   shows where the piece is.
+   digits of position a begin at byte NSG_PAGE_PLACE(a, value_bytes). All bytes are ASCII, and no zero byte ends the
+   page. It tells the whole table: a player's own is noise, the joined one shows where the piece is.
      table   NSG_TABLE_BYTES(positions, value_bytes) bytes, as nsg_join_keys or nsg_open_all writes them.
    Refusals, in this order: 2; 4; 7 table of another length; 9 output under NSG_PAGE_BYTES(positions, value_bytes).
    Writes that many bytes, and their number to *written; at most NSG_MOST_PAGE_BYTES. */

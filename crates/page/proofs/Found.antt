@@ -19,7 +19,8 @@ use Rattle.digits.specs.Reading.{number-read, hex-read}
 use Rattle.digits.proofs.Laws.{hex-long, aligned-long}
 use Rattle.digits.proofs.Reading.{aligned-read, hex-back}
 use Rattle.page.specs.Page.{entry-at, value-cell, page-cell, page-line, page-lines, page, line-long, page-long, digits-place, Pageable}
-use Rattle.page.specs.Found.{Lines-long, Page-is-long, digits-at, Cells-found, Cells-read, Past-blank, Cells-apart, Lines-end, Numbers-found, Lines-numbered, Page-tells}
+use Rattle.page.specs.Found.{Lines-long, Page-is-long, digits-at, Cells-found, Cells-read}
+use Rattle.page.specs.Found.{Past-blank, Cells-apart, Lines-end, Numbers-found, Lines-numbered, Page-tells}
 use Rattle.page.proofs.Laws.{page-cell-here, page-cell-past, spaces-long, page-cell-long, cells-long, value-long, line-first, first-fits}
 use Rattle.page.proofs.Laws.{line-is-long, page-is-so-long}
 
