@@ -63,6 +63,7 @@ struct match {
     uint32_t players, positions, width, value_bytes, point;
     uint64_t arrays_length, seeds_length, words_length, key_length, keys_length, table_length;
     uint8_t value[16], *arrays, *seeds, *words, *keys;
+    uint32_t fault[NSG_FAULT_NUMBERS]; /* where a deal found a bad column */
     uint32_t squares[SQUARES]; /* what Open one opens in turn */
     /* for Draw card, whose calls read its decks in turn, around and around */
     const uint8_t *decks; /* the first; the next begin NSG_MOST_DECK_BYTES on from one another */
@@ -176,7 +177,6 @@ static uint32_t done(const struct task *t, int before)
 {
     static const uint8_t seed[SEED] = {1, 2, 3};
     struct match *m = t->match;
-    uint32_t fault[NSG_FAULT_NUMBERS]; /* stays as it is: no deal here is refused */
     uint32_t written;
     switch (t->work) {
     case EXPAND:
@@ -198,7 +198,7 @@ static uint32_t done(const struct task *t, int before)
                              &written);
     default:
         return t->by->deal(m->players, m->positions, m->width, m->value_bytes, m->point, m->value, m->value_bytes, m->arrays,
-                           m->arrays_length, m->seeds, m->seeds_length, m->words, m->words_length, t->out, m->keys_length, fault);
+                           m->arrays_length, m->seeds, m->seeds_length, m->words, m->words_length, t->out, m->keys_length, m->fault);
     }
 }
 
@@ -254,6 +254,36 @@ static void compare_squares(const struct match *m, const uint8_t *key, const uin
             same("open one", contenders[i].name, answer, expected, given, sizeof given);
         }
     }
+}
+
+/* All contenders refuse a dealing for one bad column, with its number and its place: a bit that is no player's, the other parity, the column
+   before it again. In each place of a small board's arrays, in some of a large one's. */
+static void compare_faults(struct match *m)
+{
+    const uint64_t columns = NSG_COLUMNS(m->players), step = 1 + m->arrays_length / 512;
+    uint8_t *given = bytes(m->keys_length);
+    for (uint64_t place = 0; place < m->arrays_length; place += step) {
+        const uint8_t column = m->arrays[place];
+        const struct {
+            uint32_t number;
+            uint8_t column;
+        } bad[] = {
+            {NSG_REFUSED_COLUMN_BIT, (uint8_t)(column | 1u << m->players)},
+            {NSG_REFUSED_COLUMN_PARITY, column ^ 1},
+            {NSG_REFUSED_COLUMN_TWICE, place == 0 ? 0 : m->arrays[place - 1]},
+        };
+        for (int k = 0; k < (place % columns == 0 ? 2 : 3); k++) {
+            m->arrays[place] = bad[k].column;
+            for (int i = 0; i < CONTENDERS; i++) {
+                struct task t = {.work = DEAL, .by = &contenders[i], .match = m, .out = given};
+                m->fault[0] = m->fault[1] = UINT32_MAX;
+                if (done(&t, 0) != bad[k].number || m->fault[0] != place / columns || m->fault[1] != place % columns)
+                    fail("deal", contenders[i].name, "a bad column is not found where it is");
+            }
+            m->arrays[place] = column;
+        }
+    }
+    free(given);
 }
 
 /* All contenders deal the same keys, open each of them as the same table and squares, and join them to the piece alone. The match keeps
@@ -588,6 +618,7 @@ static void prepare(void)
         for (uint32_t i = 0; i < SQUARES; i++)
             matches[k].squares[i] = (boards[k].first + i * boards[k].step) % boards[k].positions;
         compare_match(&matches[k]);
+        compare_faults(&matches[k]);
         enter_all(&races.open_one[k], OPEN_ONE, &matches[k]);
         if (k < WHOLE_BOARDS) {
             enter_all(&races.open_all[k], OPEN_ALL, &matches[k]);

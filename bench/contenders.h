@@ -1,6 +1,6 @@
 /* What bench.c times side by side: the library, and two peers that have the library's calls. A slice is a pointer and a length; 0 is
-   accepted. The peers are scheme.c over plain.c's ChaCha20, and scheme.c over libsodium's. They tell no place of a bad
-   column. Write page needs no cipher: its one peer is page.c. */
+   accepted. The peers are scheme.c over plain.c's ChaCha20, and scheme.c over libsodium's. Write page needs no cipher: its
+   one peer is page.c. */
 #include "../include/nosingginger.h"
 #include <stddef.h>
 

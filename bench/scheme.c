@@ -1,6 +1,6 @@
 /* The scheme of document 01 written plainly in C, over the cipher that PEER names (plain or libsodium): Deal, Open one,
-   Open all, Join keys and document 02's Draw card. It turns away what these documents turn away, with one number for
-   all of it, so that no bytes lead it out of its slices; a refusal writes nothing, not even where a bad column is. */
+   Open all, Join keys and document 02's Draw card. It turns away what these documents turn away, so that no bytes lead it
+   out of its slices: a bad column with its number and place, all else with one number; a refusal writes nothing else. */
 #include "contenders.h"
 #include <string.h>
 
@@ -210,21 +210,34 @@ static uint8_t *put_header(uint8_t *at, const struct board *b)
     return put_number(put_number(at, b->width), b->value_bytes);
 }
 
-/* Whether each grid row has every column of its parity once: as many columns as there are make all of them, and none of the others. */
-static int arrays_good(const struct board *b, uint32_t point, const uint8_t *arrays)
+/* What is wrong with a column: a bit at p or above, the wrong parity, or it is one of those seen before it in its array. */
+static uint32_t column_fault(const struct board *b, int odd, uint64_t seen, uint8_t column)
 {
-    const uint64_t odd = 0x6996966996696996, those = b->players == 6 ? ~(uint64_t)0 : ((uint64_t)1 << (2 * b->columns)) - 1;
+    const uint64_t odd_columns = 0x6996966996696996;
+    if (column >> b->players != 0)
+        return NSG_REFUSED_COLUMN_BIT;
+    const uint64_t bit = (uint64_t)1 << column;
+    if (((odd_columns & bit) != 0) != odd)
+        return NSG_REFUSED_COLUMN_PARITY;
+    return (seen & bit) != 0 ? NSG_REFUSED_COLUMN_TWICE : NSG_ACCEPTED;
+}
+
+/* The number of the first bad column, and its grid row and column. */
+static uint32_t first_fault(const struct board *b, uint32_t point, const uint8_t *arrays, uint32_t fault[2])
+{
     for (size_t g = 0; g < b->grid_rows; g++, arrays += b->columns) {
         uint64_t seen = 0;
         for (size_t j = 0; j < b->columns; j++) {
-            if (arrays[j] >> b->players != 0)
-                return 0;
+            const uint32_t number = column_fault(b, g == point / b->width, seen, arrays[j]);
+            if (number != NSG_ACCEPTED) {
+                fault[0] = (uint32_t)g;
+                fault[1] = (uint32_t)j;
+                return number;
+            }
             seen |= (uint64_t)1 << arrays[j];
         }
-        if (seen != ((g == point / b->width ? odd : ~odd) & those))
-            return 0;
     }
-    return 1;
+    return NSG_ACCEPTED;
 }
 
 /* Writes a player's marks and held seeds of one grid row. */
@@ -246,13 +259,15 @@ uint32_t OF(deal)(uint32_t players, uint32_t positions, uint32_t width, uint32_t
                   uint64_t value_length, const uint8_t *arrays, uint64_t arrays_length, const uint8_t *seeds, uint64_t seeds_length,
                   const uint8_t *words, uint64_t words_length, uint8_t *keys, uint64_t keys_length, uint32_t fault[2])
 {
-    (void)fault;
     struct board b = {.players = players, .positions = positions, .width = width, .value_bytes = value_bytes};
     uint8_t header[16], last[MOST_ROW];
     if (!sized(&b) || point >= positions || value_length != value_bytes || arrays_length != b.grid_rows * b.columns ||
         seeds_length != arrays_length * SEED || words_length != (b.columns - 1) * b.row_bytes)
         return 1;
-    if (!arrays_good(&b, point, arrays) || keys_length < players * ((size_t)(put_header(header, &b) - header) + b.body_bytes))
+    const uint32_t number = first_fault(&b, point, arrays, fault);
+    if (number != NSG_ACCEPTED)
+        return number;
+    if (keys_length < players * ((size_t)(put_header(header, &b) - header) + b.body_bytes))
         return 1;
     memset(last, 0, b.row_bytes);
     memcpy(last + point % width * value_bytes, value, value_bytes);

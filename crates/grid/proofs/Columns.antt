@@ -5,7 +5,6 @@ use mathlib.Core.Bool.{Bool, true, false, not, cond, true≢false}
 use Prim.Native.Nat.{ℕ, zero, suc, _+_, _*_, _-_, _/_, _%_, _^_, _≤_, _<_}
 use native.Mathlib.Omega.{arith}
 use native.Mathlib.Nat.{div-one, pow-succ', div-div-eq-div-mul}
-use lib.Bits.{bitXor, differ, xor-step, xor-zero-r}
 use lib.Dec.{eqb}
 use borrow.Author.Tests.{eqb-true, eqb-false, eq-eqb, ne-eqb}
 use Rattle.grid.specs.Grid.{bit, ones, is-odd, same-parity, other-marks}
@@ -124,7 +123,7 @@ others-suc c i =
     (λ h. let r = mark-within (c / 2) i h in omega arith) (λ h. omega arith))
 
 -- a column with player i's mark the other way round
-turned-zero : (c : ℕ) → turned c 0 ≡ 1 - c % 2 + 2 * (c / 2)
+pub turned-zero : (c : ℕ) → turned c 0 ≡ 1 - c % 2 + 2 * (c / 2)
 unfolding turned
 turned-zero c =
     by-mark c 0 (λ t. cond t (c - 2 ^ 0) (c + 2 ^ 0) ≡ 1 - c % 2 + 2 * (c / 2)) (λ h. let e = marked-low c h in omega arith)
@@ -136,27 +135,6 @@ turned-suc c i =
     rw (bit-suc c i)
     (by-mark (c / 2) i (λ t. cond t (c - 2 ^ suc i) (c + 2 ^ suc i) ≡ c % 2 + 2 * cond t (c / 2 - 2 ^ i) (c / 2 + 2 ^ i))
     (λ h. let r = mark-within (c / 2) i h in omega arith) (λ h. omega arith))
-
--- an XOR with the mark alone does that
-one-differs : (x : ℕ) → x < 2 → differ x 1 ≡ 1 - x
-one-differs zero h = refl
-one-differs (suc zero) h = refl
-one-differs (suc (suc x)) h = omega arith
-
-none-differs : (x : ℕ) → differ x 0 ≡ x
-none-differs zero = refl
-none-differs (suc x) = refl
-
-pub turned-by-xor : (c i : ℕ) → bitXor c (2 ^ i) ≡ turned c i
-turned-by-xor c zero =
-    let low = one-differs (c % 2) (omega arith) in
-    let e = turned-zero c in
-    rw (xor-step c 1, xor-zero-r (c / 2)) (omega arith)
-turned-by-xor c (suc i) =
-    let half : 2 ^ suc i / 2 ≡ 2 ^ i = omega arith in
-    let even : 2 ^ suc i % 2 ≡ 0 = omega arith in
-    let e = turned-suc c i in
-    rw (xor-step c (2 ^ suc i), half, even, turned-by-xor (c / 2) i, none-differs (c % 2)) (omega arith)
 
 -- the halves of these
 others-half : (c i : ℕ) → other-marks c (suc i) / 2 ≡ other-marks (c / 2) i
@@ -239,11 +217,7 @@ flipped m n e = go (eqb (n % 2) 1) refl
     go true q = let r = eqb-true (n % 2) 1 q in ne-eqb (m % 2) 1 (λ z. omega arith)
     go false q = let r = eqb-false (n % 2) 1 q in eq-eqb (m % 2) 1 (omega arith)
 
-pub turned-here : (c i : ℕ) → bit (turned c i) i ≡ not (bit c i)
-turned-here c zero = let e = turned-zero c in rw (bit-zero c, bit-zero (turned c 0)) (flipped (turned c 0) c (omega arith))
-turned-here c (suc i) = bit-suc (turned c (suc i)) i ∙ rw (turned-half c i, bit-suc c i) (turned-here (c / 2) i)
-
-pub turned-others : (c i j : ℕ) → (j ≡ i → ⊥) → bit (turned c i) j ≡ bit c j
+turned-others : (c i j : ℕ) → (j ≡ i → ⊥) → bit (turned c i) j ≡ bit c j
 turned-others c zero zero ne = absurd (ne refl)
 turned-others c zero (suc j) ne =
     let e = turned-zero c in
@@ -272,7 +246,7 @@ turned-parity (suc k) c (suc i) h =
     step : (x m n : ℕ) → m % 2 ≡ (1 + n) % 2 → (x + m) % 2 ≡ (1 + (x + n)) % 2
     step x m n h = omega arith
 
-turned-odd : (c i : ℕ) → i < 8 → is-odd (turned c i) ≡ not (is-odd c)
+pub turned-odd : (c i : ℕ) → i < 8 → is-odd (turned c i) ≡ not (is-odd c)
 unfolding is-odd
 turned-odd c i h = flipped (ones 8 (turned c i)) (ones 8 c) (turned-parity 8 c i h)
 

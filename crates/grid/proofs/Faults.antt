@@ -7,7 +7,7 @@ use mathlib.Core.Logic.{_⊎_, inl, inr, ⊎-elim}
 use Prim.Native.Nat.{ℕ, zero, suc, _+_, _*_, _/_, _%_, _^_, _≤_, _<_}
 use native.Mathlib.Decide.{decLe}
 use native.Mathlib.Omega.{arith}
-use native.Mathlib.Nat.{mod-lt, div-add-mod', div-lt-iff-lt-mul}
+use native.Mathlib.Nat.{add-zero, zero-add, mod-lt, div-add-mod', div-lt-iff-lt-mul}
 use lib.Arith.{digits-lt, digits-div, digits-mod}
 use lib.Dec.{eqb}
 use lib.ListN.{length, getD, drop, length-drop}
@@ -75,7 +75,7 @@ module _ (b : Board) (o : Bool) (seen : List ℕ) (c : ℕ) where
   unfolding column-fault
   column-fine low parity new = rw (lt-leb (2 ^ b .p) c low, parity-fits (is-odd c) o parity, new)
 
-  column-in : column-fault b o seen c ≡ 0 → (c < 2 ^ b .p) × (is-odd c ≡ o) × (member c seen ≡ false)
+  pub column-in : column-fault b o seen c ≡ 0 → (c < 2 ^ b .p) × (is-odd c ≡ o) × (member c seen ≡ false)
   unfolding column-fault
   column-in h =
       let none = none-holds (bit-beyond b c) (wrong-parity o c) (member c seen) h in
@@ -156,6 +156,33 @@ module _ (b : Board) (a : ℕ) (cs : List ℕ) where
   unfolding fault-from
   no-more k i e = rw e
 
+  -- places in two parts: what is found in the first, or else in the second
+  two-parts : (k m i : ℕ) → fault-from (k + m) i b a cs
+      ≡ cond (eqb (fault-from k i b a cs .number) 0) (fault-from m (i + k) b a cs) (fault-from k i b a cs)
+  two-parts zero m i = rw (no-more zero i refl, zero-add m, add-zero i)
+  two-parts (suc k) m i =
+      let more : suc k + m ≡ suc (k + m) = omega arith in
+      let next : i + suc k ≡ suc i + k = omega arith in
+      rw (more, next) (go (eqb (at i) 0) refl (two-parts k m (suc i)))
+    where
+      go : (t : Bool) → eqb (at i) 0 ≡ t
+          → fault-from (k + m) (suc i) b a cs
+          ≡ cond (eqb (fault-from k (suc i) b a cs .number) 0) (fault-from m (suc i + k) b a cs) (fault-from k (suc i) b a cs)
+          → fault-from (suc (k + m)) i b a cs
+          ≡ cond (eqb (fault-from (suc k) i b a cs .number) 0) (fault-from m (suc i + k) b a cs) (fault-from (suc k) i b a cs)
+      go true e later =
+          let here = eqb-true (at i) 0 e in
+          rw (fault-next (k + m) i here, fault-next k i here) later
+      go false e later =
+          let here = eqb-false (at i) 0 e in
+          rw (fault-here (k + m) i here, fault-here k i here, e)
+
+  pub in-first-part : (k m i : ℕ) → (fault-from k i b a cs .number ≡ 0 → ⊥) → fault-from (k + m) i b a cs ≡ fault-from k i b a cs
+  in-first-part k m i h = two-parts k m i ∙ rw (ne-eqb (fault-from k i b a cs .number) 0 h)
+
+  pub in-second-part : (k m i : ℕ) → fault-from k i b a cs .number ≡ 0 → fault-from (k + m) i b a cs ≡ fault-from m (i + k) b a cs
+  in-second-part k m i h = two-parts k m i ∙ rw (eq-eqb (fault-from k i b a cs .number) 0 h)
+
   -- what is found is at a place, and no earlier place has a fault
   record Found (k i : ℕ) (f : Fault) : Type 0 where
     place : ℕ
@@ -225,7 +252,7 @@ module _ (b : Board) (a : ℕ) (cs : List ℕ) where
       ⊎-elim (λ f. absurd (f .some (sym (ap (λ (g : Fault). g .number) (f .is)) ∙ h))) (λ f. f .none) (scanned k i)
 
   -- a place by its grid row and column
-  at-place : (g j : ℕ) → j < columns b → at (g * columns b + j) ≡ fault-at b a cs g j
+  pub at-place : (g j : ℕ) → j < columns b → at (g * columns b + j) ≡ fault-at b a cs g j
   at-place g j h = rw (digits-div g h, digits-mod g h)
 
 -- and the grid row of a place is one of the board's
@@ -271,7 +298,7 @@ place-is-first b a cs some =
     subst⁻¹ (λ (n : Fault). First-fault b a cs n) (f .is) (first-here b a cs (arrays-fault b a cs) f)
 
 -- good arrays have no fault, and arrays without one are good
-pub good-no-fault : (b : Board) (a : ℕ) (cs : List ℕ) → length cs ≡ arrays-long b → arrays-good (grid-rows b) 0 b a cs ≡ true
+good-no-fault : (b : Board) (a : ℕ) (cs : List ℕ) → length cs ≡ arrays-long b → arrays-good (grid-rows b) 0 b a cs ≡ true
     → arrays-fault b a cs ≡ no-fault
 unfolding arrays-fault
 good-no-fault b a cs long good =

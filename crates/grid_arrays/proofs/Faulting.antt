@@ -1,117 +1,140 @@
--- The first fault: a column among others, what is wrong with one column, and one turn of the search at a time. `drop i` of a list is what a
--- loop has left of it at place i.
+-- The search for the first fault, one turn at a time: what is wrong with one column, column by column in a grid row's array, and grid row by
+-- grid row.
 -- Assumes nothing.
-use mathlib.Core.Path.{_≡_, refl, sym, _∙_}
-use mathlib.Core.Bool.{Bool, true, false, _&&_, not, cond}
+use mathlib.Core.Path.{_≡_, sym, _∙_}
+use mathlib.Core.Bool.{Bool, true, false}
 use mathlib.Core.List.{List}
 use Prim.Native.Nat.{ℕ, suc, _+_, _*_, _-_, _/_, _%_, _^_, _≤_, _<_}
-use native.Mathlib.Nat.{div-add-mod', sub-zero}
+use native.Mathlib.Nat.{add-zero, zero-mul, sub-zero}
 use native.Mathlib.Numerals.{add-one}
 use native.Mathlib.Omega.{arith}
-use lib.Dec.{ltb, leb, eqb}
-use lib.ListN.{length, getD, take, drop, drop-of-length-le}
-use lib.Seq.{drop-cons}
-use borrow.Author.Tests.{eq-eqb, ne-eqb, lt-ltb, leb-false, not-true, not-false}
-use Rattle.grid.specs.Grid.{Board, columns, arrays-long, bit, column, is-odd, same-parity, member}
-use Rattle.grid.specs.Faults.{first-of, column-fault, no-fault, fault-at, fault-from, arrays-fault}
+use lib.Arith.{digits-lt, digits-div, digits-mod}
+use lib.Bits.{bitOr}
+use lib.Dec.{eqb}
+use lib.ListN.{length, getD, drop, length-drop}
+use lib.Seq.{take-suc, getD-drop}
+use borrow.Author.Tests.{le-leb, lt-leb}
+use Rattle.grid.specs.Grid.{Board, board-refusal, columns, grid-rows, arrays-long, column, member}
+use Rattle.grid.specs.Faults.{wrong-parity, column-fault, columns-before, no-fault, fault-at, fault-from, arrays-fault}
+use Rattle.grid.specs.declared.fault.Fault.{Fault}
 use Rattle.grid.proofs.Counting.{one-left}
-use Rattle.grid.proofs.Faults.{fault-next, fault-here, no-more}
-use Rattle.grid_arrays.specs.Checking.{fitting}
-use Rattle.grid_arrays.proofs.Crossing.{fits-is}
+use Rattle.grid.proofs.Facts.{board-in, column-most}
+use Rattle.grid.proofs.Powers.{shifted-one}
+use Rattle.grid.proofs.Faults.{column-in, fault-next, fault-here, no-more, at-place, in-first-part, in-second-part}
+use Rattle.grid_arrays.specs.Seen.{Columns-seen, Seen-tells}
+use Rattle.grid_arrays.proofs.Seen.{one-more-seen}
 
--- A COLUMN AMONG OTHERS
-
-module _ (v : ℕ) (xs : List ℕ) (i : ℕ) where
-  pub among-here : i < length xs → getD xs i 0 ≡ v → true ≡ member v (drop i xs)
-  unfolding member
-  among-here inside e = rw (drop-cons xs i 0 inside, eq-eqb (getD xs i 0) v e)
-
-  pub among-next : i < length xs → (getD xs i 0 ≡ v → ⊥) → member v (drop (i + 1) xs) ≡ member v (drop i xs)
-  unfolding member
-  among-next inside other = rw (add-one, drop-cons xs i 0 inside, ne-eqb (getD xs i 0) v other)
-
-  pub among-none : length xs ≤ i → false ≡ member v (drop i xs)
-  unfolding member
-  among-none past = rw (drop-of-length-le xs past)
-
--- WHAT IS WRONG WITH ONE COLUMN: the first of three tests, as numbers by which `omega` weighs the number answered
-
-abbrev pub one : Bool → ℕ
-one t = cond t 1 0
-
-pub held : {t : Bool} → t ≡ true → one t ≡ 1
-held e = rw e
-
-pub not-held : {t : Bool} → t ≡ false → one t ≡ 0
-not-held e = rw e
-
-pub failed : (t : Bool) → not t ≡ true → one t ≡ 0
-failed t e = not-held (not-true t e)
-
-pub passed : (t : Bool) → not t ≡ false → one t ≡ 1
-passed t e = held (not-false t e)
-
--- a number is the one due where it is right in each of the four cases
-pub record Due (beyond fits stood : Bool) (n : ℕ) : Type 0 where
-  pub bit-first : one beyond ≡ 1 → n ≡ 18
-  pub then-parity : one beyond ≡ 0 → one fits ≡ 0 → n ≡ 19
-  pub then-twice : one beyond ≡ 0 → one fits ≡ 1 → one stood ≡ 1 → n ≡ 20
-  pub or-none : one beyond ≡ 0 → one fits ≡ 1 → one stood ≡ 0 → n ≡ 0
-
-due-is : (x y z : Bool) (n : ℕ) → Due x y z n → n ≡ first-of x (not y) z
-due-is true y z n d = d .bit-first refl
-due-is false false z n d = d .then-parity refl refl
-due-is false true true n d = d .then-twice refl refl refl
-due-is false true false n d = d .or-none refl refl refl
+-- WHAT IS WRONG WITH ONE COLUMN behind some others, test by test, where `w` is whether its parity is wrong
 
 module _ (b : Board) (o : Bool) (before : List ℕ) (c : ℕ) where
-  module _ (limit : ℕ) (beyond fits stood : Bool) (is-limit : limit ≡ 2 ^ b .p) (tested : beyond ≡ leb limit c) (fit : fits ≡ bit (fitting b o) c)
-      (among : stood ≡ member c before) where
-    tests : first-of beyond (not fits) stood ≡ column-fault b o before c
+  pub bit-first : 2 ^ b .p ≤ c → 18 ≡ column-fault b o before c
+  unfolding column-fault
+  bit-first beyond = rw (le-leb (2 ^ b .p) c beyond)
+
+  module _ (w : Bool) (low : c < 2 ^ b .p) (parity : w ≡ wrong-parity o c) where
+    pub then-parity : w ≡ true → 19 ≡ column-fault b o before c
     unfolding column-fault
-    tests = rw (← is-limit, ← tested, among, fit, fits-is b o c, ← is-limit) (go beyond tested)
-      where
-        go : (t : Bool) → t ≡ leb limit c
-            → first-of t (not (ltb c limit && same-parity (is-odd c) o)) (member c before)
-            ≡ first-of t (not (same-parity (is-odd c) o)) (member c before)
-        go true e = refl
-        go false e = rw (lt-ltb c limit (leb-false limit c (sym e)))
+    then-parity wrong = rw (lt-leb (2 ^ b .p) c low, ← parity, wrong)
 
-    -- a number that is the one due is the column's
-    pub column-due : (n : ℕ) → Due beyond fits stood n → n ≡ column-fault b o before c
-    column-due n d = due-is beyond fits stood n d ∙ tests
+    pub then-twice : w ≡ false → member c before ≡ true → 20 ≡ column-fault b o before c
+    unfolding column-fault
+    then-twice right stood = rw (lt-leb (2 ^ b .p) c low, ← parity, right, stood)
 
--- THE SEARCH: what is left of it at place i
+    pub or-none : w ≡ false → member c before ≡ false → 0 ≡ column-fault b o before c
+    unfolding column-fault
+    or-none right new = rw (lt-leb (2 ^ b .p) c low, ← parity, right, new)
 
--- at the place behind the last nothing is left
-pub search-done : (b : Board) (a : ℕ) (xs : List ℕ) (i : ℕ) → length xs ≤ i → no-fault ≡ fault-from (length xs - i) i b a xs
-search-done b a xs i past = sym (no-more b a xs (length xs - i) i (omega arith))
+-- a column of an accepted board's players is below 64
+pub shift-fits : (b : Board) (c : ℕ) → board-refusal b ≡ 0 → c < 1 * 2 ^ b .p % 2 ^ 32 → c < 64
+shift-fits b c accepted low =
+    let most = column-most b (board-in b accepted) in
+    let few = board-in b accepted .players-most in
+    omega (arith, shifted-one 32 (b .p) (omega arith))
 
--- the whole search
-pub search-begin : (b : Board) (a : ℕ) (xs : List ℕ) → length xs ≡ arrays-long b → fault-from (length xs - 0) 0 b a xs ≡ arrays-fault b a xs
+-- a column of a grid row's array is one of the arrays
+pub column-inside : (b : Board) (long g j wide : ℕ) → wide ≡ columns b → long ≡ arrays-long b → g < grid-rows b → j < wide → g * wide + j < long
+column-inside b long g j wide is-wide is-long below inside = rw (is-wide, is-long) (digits-lt below (omega arith))
+
+-- COLUMN BY COLUMN: a turn at place j of grid row g, whose array has `wide` columns. By the columns seen before, `n` was told of the one there.
+
+pub record Turn (b : Board) (a : ℕ) (cs : List ℕ) (g j wide seen n : ℕ) : Type 0 where
+  pub is-wide : wide ≡ columns b
+  pub long : length cs ≡ arrays-long b
+  pub below : g < grid-rows b
+  pub inside : j < wide
+  pub so-far : Columns-seen (columns-before b cs g j) seen
+  pub told : Seen-tells b (eqb g (a / b .wide)) seen (getD cs (g * wide + j) 0) n
+
+module _ {b : Board} {a : ℕ} {cs : List ℕ} {g j wide seen n : ℕ} (t : Turn b a cs g j wide seen n) where
+  abbrev c : ℕ
+  c = getD cs (g * wide + j) 0
+
+  in-array : j < columns b
+  in-array = omega (arith, t .inside, t .is-wide)
+
+  this : c ≡ column b cs g j
+  unfolding column
+  this = rw (t .is-wide)
+
+  number-at : n ≡ fault-at b a cs g j
+  unfolding fault-at
+  number-at = t .told (columns-before b cs g j) (t .so-far) ∙ rw this
+
+  pub column-found : (h i : ℕ) → h ≡ g → i ≡ j → (n ≡ 0 → ⊥)
+      → record { number = n; «grid_row» = h; column = i } ≡ fault-from (wide - j) (g * columns b + j) b a cs
+  column-found h i is-h is-i some =
+      let found = fault-here b a cs (wide - (j + 1)) (g * columns b + j) (λ z. some (number-at ∙ sym (at-place b a cs g j in-array) ∙ z)) in
+      rw (one-left wide j (t .inside), is-h, is-i) (sym (found ∙ rw (digits-div g in-array, digits-mod g in-array, number-at)))
+
+  pub column-next : n ≡ 0 → fault-from (wide - (j + 1)) (g * columns b + (j + 1)) b a cs ≡ fault-from (wide - j) (g * columns b + j) b a cs
+  column-next none =
+      let next : g * columns b + (j + 1) ≡ suc (g * columns b + j) = omega arith in
+      rw (one-left wide j (t .inside), next)
+      (sym (fault-next b a cs (wide - (j + 1)) (g * columns b + j) (at-place b a cs g j in-array ∙ sym number-at ∙ none)))
+
+  pub column-seen : (power : ℕ) → power ≡ 2 ^ c → Columns-seen (columns-before b cs g (j + 1)) (bitOr seen power)
+  unfolding column
+  column-seen power is-power =
+      let array = drop (g * columns b) cs in
+      let there : j < length array = rw length-drop (omega (arith, t .long, digits-lt (t .below) in-array)) in
+      rw (add-one, take-suc array j 0 there, getD-drop, ← this)
+      (one-more-seen (columns-before b cs g j) seen c power is-power (t .so-far))
+
+  -- a column that nothing is wrong with has marks of p players only
+  pub column-low : n ≡ 0 → c < 2 ^ b .p
+  column-low none = column-in b _ (columns-before b cs g j) c (sym (t .told (columns-before b cs g j) (t .so-far)) ∙ none) .0
+
+-- where an array begins, and behind its last column
+pub array-begin : (b : Board) (a : ℕ) (cs : List ℕ) (g wide : ℕ) → wide ≡ columns b
+    → fault-from (wide - 0) (g * columns b + 0) b a cs ≡ fault-from (columns b) (g * columns b) b a cs
+array-begin b a cs g wide is-wide = rw (sub-zero, is-wide, add-zero)
+
+pub array-done : (b : Board) (a : ℕ) (cs : List ℕ) (g j wide : ℕ) → wide ≤ j → no-fault ≡ fault-from (wide - j) (g * columns b + j) b a cs
+array-done b a cs g j wide past = sym (no-more b a cs (wide - j) (g * columns b + j) (omega arith))
+
+-- GRID ROW BY GRID ROW: `f` was answered of the array of grid row g
+
+module _ (b : Board) (a : ℕ) (cs : List ℕ) (g rows : ℕ) (f : Fault) (below : g < rows)
+    (answered : f ≡ fault-from (columns b) (g * columns b) b a cs) where
+  left : (rows - g) * columns b ≡ columns b + (rows - (g + 1)) * columns b
+  left = rw (one-left rows g below) (omega arith)
+
+  pub array-found : (f .number ≡ 0 → ⊥) → f ≡ fault-from ((rows - g) * columns b) (g * columns b) b a cs
+  array-found some =
+      rw (left, answered) (sym (in-first-part b a cs (columns b) ((rows - (g + 1)) * columns b) (g * columns b) (λ z. some (rw answered z))))
+
+  pub array-next : f .number ≡ 0
+      → fault-from ((rows - (g + 1)) * columns b) ((g + 1) * columns b) b a cs ≡ fault-from ((rows - g) * columns b) (g * columns b) b a cs
+  array-next none =
+      let next : (g + 1) * columns b ≡ g * columns b + columns b = omega arith in
+      rw (left, next) (sym (in-second-part b a cs (columns b) ((rows - (g + 1)) * columns b) (g * columns b) (rw (← answered) none)))
+
+pub arrays-begin : (b : Board) (a : ℕ) (cs : List ℕ) (rows : ℕ) → rows ≡ grid-rows b
+    → fault-from ((rows - 0) * columns b) (0 * columns b) b a cs ≡ arrays-fault b a cs
 unfolding arrays-fault
-search-begin b a xs long = rw (sub-zero, long)
+arrays-begin b a cs rows is-rows = simp (sub-zero, zero-mul, is-rows)
 
--- one turn, where an array has `wide` columns, and `n` was answered of a column behind some others in an odd array or an even one: these are the
--- column at i, those before it in its array, and its grid row's parity
-module _ (b : Board) (a : ℕ) (xs : List ℕ) (i wide n : ℕ) (o : Bool) (seen : List ℕ) (c : ℕ) (is-wide : wide ≡ columns b) (inside : i < length xs)
-    (answered : n ≡ column-fault b o seen c) (behind : seen ≡ take (i - (i - i % wide)) (drop (i - i % wide) xs)) (here : c ≡ getD xs i 0)
-    (parity : o ≡ eqb (i / wide) (a / b .wide)) where
-  number-at : n ≡ fault-at b a xs (i / columns b) (i % columns b)
-  unfolding fault-at column
-  number-at =
-      let J = columns b in
-      let whole : i / J * J + i % J ≡ i = div-add-mod' i J in
-      let start : i - i % J ≡ i / J * J = omega (arith, whole) in
-      let size : i - i / J * J ≡ i % J = omega (arith, whole) in
-      answered ∙ rw (behind, here, parity, is-wide, start, size, whole)
-
-  pub search-next : n ≡ 0 → fault-from (length xs - (i + 1)) (i + 1) b a xs ≡ fault-from (length xs - i) i b a xs
-  search-next none =
-      rw (one-left (length xs) i inside) (rw add-one (sym (fault-next b a xs (length xs - suc i) i (sym number-at ∙ none))))
-
-  pub search-found : (h j : ℕ) → (n ≡ 0 → ⊥) → h ≡ i / wide → j ≡ i % wide
-      → record { number = n; «grid_row» = h; column = j } ≡ fault-from (length xs - i) i b a xs
-  search-found h j some is-h is-j =
-      rw (one-left (length xs) i inside, is-h, is-j, is-wide, number-at)
-      (sym (fault-here b a xs (length xs - (i + 1)) i (λ z. some (number-at ∙ z))))
+pub arrays-done : (b : Board) (a : ℕ) (cs : List ℕ) (g rows : ℕ) → rows ≤ g → no-fault ≡ fault-from ((rows - g) * columns b) (g * columns b) b a cs
+arrays-done b a cs g rows past =
+    let none : rows - g ≡ 0 = omega arith in
+    sym (no-more b a cs ((rows - g) * columns b) (g * columns b) (rw (none, zero-mul)))

@@ -1,3 +1,3 @@
-pub mod Checking
-pub mod Crossing
 pub mod Faulting
+pub mod Parity
+pub mod Seen
