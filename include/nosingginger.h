@@ -61,7 +61,7 @@ extern "C" {
 #endif
 
 /* The version, which `pkg-config --modversion nosingginger` tells too. */
-#define NSG_VERSION "0.5.0"
+#define NSG_VERSION "0.6.0"
 
 /* THE BOUNDS. */
 #define NSG_LEAST_PLAYERS 2u

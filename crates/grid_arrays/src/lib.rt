@@ -15,8 +15,8 @@ use grid::fault::REFUSED_COLUMN_BIT;
 use grid::fault::REFUSED_COLUMN_PARITY;
 use grid::fault::REFUSED_COLUMN_TWICE;
 
-// Whether a column has the wrong parity, by its count of ones and without a branch: in an odd array the lowest bit is
-// turned round first.
+// Whether a column has the wrong parity, by its count of ones and without a branch: in an odd array its lowest bit is
+// turned round first, and then the count must be even too.
 fn wrong_parity(odd: bool, column: u8) -> bool
     ensures { λ r. ⌜ r ≡ wrong-parity odd column ⌝ }
 {
@@ -54,13 +54,13 @@ fn none() -> Fault
     }
 }
 
-// The first fault of one grid row's array, or none, in one pass. Bit c of seen is set exactly when column c stood
-// earlier in this array: `Columns-seen`.
+// The first fault of one grid row's array, or none, in one pass. At each column bit b of `seen` is set exactly when the
+// column of value b stood earlier in this array: `Columns-seen`, the loop's invariant.
 fn array_fault(board: Board, point: u32, arrays: &[u8], grid_row: usize) -> Fault
     requires { ⌜ (board-refusal (board-of board) ≡ 0) × (length (now arrays) ≡ arrays-long (board-of board))
         × («grid_row» < grid-rows (board-of board)) ⌝ }
-    ensures { λ r. ⌜ r ≡ fault-from (columns (board-of board)) («grid_row» * columns (board-of board)) (board-of board) point
-        (now (arrays .entry)) ⌝ }
+    ensures { λ r. ⌜ r ≡ fault-from (columns (board-of board)) («grid_row» * columns (board-of board))
+        (board-of board) point (now (arrays .entry)) ⌝ }
 {
     let columns = board.columns();
     let start = grid_row * columns;
