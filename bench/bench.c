@@ -256,8 +256,8 @@ static void compare_squares(const struct match *m, const uint8_t *key, const uin
     }
 }
 
-/* All contenders refuse a dealing for one bad column, with its number and its place: a bit that is no player's, the other parity, the column
-   before it again. In each place of a small board's arrays, in some of a large one's. */
+/* All contenders refuse a dealing for one bad column, with its number and its place: a bit that is no player's, the other parity, the first
+   column of its array again. In each place of a small board's arrays, in some of a large one's. */
 static void compare_faults(struct match *m)
 {
     const uint64_t columns = NSG_COLUMNS(m->players), step = 1 + m->arrays_length / 512;
@@ -270,7 +270,7 @@ static void compare_faults(struct match *m)
         } bad[] = {
             {NSG_REFUSED_COLUMN_BIT, (uint8_t)(column | 1u << m->players)},
             {NSG_REFUSED_COLUMN_PARITY, column ^ 1},
-            {NSG_REFUSED_COLUMN_TWICE, place == 0 ? 0 : m->arrays[place - 1]},
+            {NSG_REFUSED_COLUMN_TWICE, m->arrays[place - place % columns]},
         };
         for (int k = 0; k < (place % columns == 0 ? 2 : 3); k++) {
             m->arrays[place] = bad[k].column;

@@ -1,5 +1,5 @@
 //! Deal's check of arrays beside the second implementation: every array of two players, and every byte at every place of
-//! six players' arrays, whose columns are all bits of a number of 64.
+//! six players' arrays, whose columns, 0 to 63, need every bit of the number that keeps those seen.
 
 use nosingginger::{deal, Board, Dealing};
 use reference::board::Board as Plain;
@@ -11,19 +11,19 @@ use std::collections::BTreeMap;
 type Answer = (u32, Option<(u32, u32)>);
 
 /// Two grid rows, an even array and an odd one: one square of one byte in each, and the point in the second.
-struct Small {
+struct TwoRows {
     plain: Plain,
     drawn: Drawn,
     keys: Vec<u8>,
     met: BTreeMap<u32, usize>,
 }
 
-impl Small {
-    fn new(players: u32) -> Small {
+impl TwoRows {
+    fn new(players: u32) -> TwoRows {
         let plain = Plain::new(players, 2, 1, 1).unwrap();
         let drawn = Drawn::at(plain, 1, &mut Generator::new(players.into()));
         let keys = vec![0; drawn.keys().concat().len()];
-        Small { plain, drawn, keys, met: BTreeMap::new() }
+        TwoRows { plain, drawn, keys, met: BTreeMap::new() }
     }
 
     fn ours(&mut self, arrays: &[u8]) -> Answer {
@@ -52,26 +52,26 @@ impl Small {
 
 #[test]
 fn every_array_of_two_players() {
-    let mut small = Small::new(2);
+    let mut rows = TwoRows::new(2);
     for [first, second] in (0..=255).flat_map(|first| (0..=255).map(move |second| [first, second])) {
-        small.compare(&[first, second, 1, 2]);
-        small.compare(&[0, 3, first, second]);
+        rows.compare(&[first, second, 1, 2]);
+        rows.compare(&[0, 3, first, second]);
     }
     // Of either parity two columns fit, two are of the other one, and 252 have a bit at 2 or above.
-    assert_eq!(small.met(), [(0, 4), (18, 2 * (252 * 256 + 2 * 252)), (19, 2 * (2 * 256 + 2 * 2)), (20, 4)]);
+    assert_eq!(rows.met(), [(0, 4), (18, 2 * (252 * 256 + 2 * 252)), (19, 2 * (2 * 256 + 2 * 2)), (20, 4)]);
 }
 
 #[test]
 fn every_byte_at_every_place_of_six_players() {
-    let mut small = Small::new(6);
-    let good = small.drawn.arrays.clone();
+    let mut rows = TwoRows::new(6);
+    let good = rows.drawn.arrays.clone();
     for place in 0..good.len() {
         for byte in 0..=255 {
             let mut arrays = good.clone();
             arrays[place] = byte;
-            small.compare(&arrays);
+            rows.compare(&arrays);
         }
     }
     // At each of 64 places its own column, 192 bytes with a bit at 6 or above, 32 of the other parity, and 31 that stand in the array too.
-    assert_eq!(small.met(), [(0, 64), (18, 64 * 192), (19, 64 * 32), (20, 64 * 31)]);
+    assert_eq!(rows.met(), [(0, 64), (18, 64 * 192), (19, 64 * 32), (20, 64 * 31)]);
 }

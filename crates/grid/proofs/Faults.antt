@@ -70,15 +70,15 @@ first-fits false false true h =
 first-fits false false false h = absurd (h refl)
 
 -- a column is without fault where it has bits of p players, the parity asked, and did not stand before
-module _ (b : Board) (o : Bool) (seen : List ℕ) (c : ℕ) where
-  column-fine : c < 2 ^ b .p → is-odd c ≡ o → member c seen ≡ false → column-fault b o seen c ≡ 0
+module _ (b : Board) (o : Bool) (before : List ℕ) (c : ℕ) where
+  column-fine : c < 2 ^ b .p → is-odd c ≡ o → member c before ≡ false → column-fault b o before c ≡ 0
   unfolding column-fault
   column-fine low parity new = rw (lt-leb (2 ^ b .p) c low, parity-fits (is-odd c) o parity, new)
 
-  pub column-in : column-fault b o seen c ≡ 0 → (c < 2 ^ b .p) × (is-odd c ≡ o) × (member c seen ≡ false)
+  pub column-in : column-fault b o before c ≡ 0 → (c < 2 ^ b .p) × (is-odd c ≡ o) × (member c before ≡ false)
   unfolding column-fault
   column-in h =
-      let none = none-holds (bit-beyond b c) (wrong-parity o c) (member c seen) h in
+      let none = none-holds (bit-beyond b c) (wrong-parity o c) (member c before) h in
       (leb-false (2 ^ b .p) c (none .0), parity-is (is-odd c) o (not-false (same-parity (is-odd c) o) (none .1)), none .2)
 
 -- AT ONE PLACE

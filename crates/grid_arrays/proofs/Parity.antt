@@ -28,8 +28,8 @@ one-differs zero h = refl
 one-differs (suc zero) h = refl
 one-differs (suc (suc x)) h = omega arith
 
-turned-low : (v : ℕ) → bitXor v 1 ≡ turned v 0
-turned-low v =
+turned-by-one : (v : ℕ) → bitXor v 1 ≡ turned v 0
+turned-by-one v =
     let e = turned-zero v in
     let low = one-differs (v % 2) (omega arith) in
     xor-step v 1 ∙ rw (xor-zero-r (v / 2)) (omega arith)
@@ -44,5 +44,5 @@ asked-parity false false = refl
 
 pub wrong-counted : (o : Bool) (v : ℕ) → v < 2 ^ 8 → eqb (count.ones (bitXor v (boolByte o)) % 2) 1 ≡ wrong-parity o v
 wrong-counted true v h =
-    odd-counted (bitXor v 1) (xor-lt 8 v 1 h (omega arith)) ∙ rw (turned-low v) (turned-odd v 0 (omega arith)) ∙ asked-parity true (is-odd v)
+    odd-counted (bitXor v 1) (xor-lt 8 v 1 h (omega arith)) ∙ rw (turned-by-one v) (turned-odd v 0 (omega arith)) ∙ asked-parity true (is-odd v)
 wrong-counted false v h = rw (xor-zero-r v) (odd-counted v h) ∙ asked-parity false (is-odd v)

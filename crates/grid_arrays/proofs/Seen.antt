@@ -1,7 +1,7 @@
 -- The columns seen as the bits of one number: none where an array begins, and one more behind each column.
 -- Assumes nothing.
 use mathlib.Core.Path.{_≡_, refl, sym, _∙_}
-use mathlib.Core.Bool.{Bool, true, false, _||_, or-true, or-false}
+use mathlib.Core.Bool.{_||_, or-true, or-false, or-assoc}
 use mathlib.Core.List.{List, [], _∷_, _++_}
 use Prim.Native.Nat.{ℕ, zero, suc, compare·suc-suc, _+_, _*_, _/_, _%_, _^_, _<_, max}
 use native.Mathlib.Nat.{max-zero}
@@ -60,14 +60,10 @@ unfolding member
 none-seen b = unmarked-zero b
 
 -- one more behind a column, by its power of two
-regrouped : (x y z : Bool) → (x || (y || z)) ≡ ((x || y) || z)
-regrouped true y z = refl
-regrouped false y z = refl
-
 member-snoc : (v c : ℕ) (xs : List ℕ) → member v (xs ++ (c ∷ [])) ≡ (member v xs || eqb c v)
 unfolding member
 member-snoc v c [] = or-false (eqb c v)
-member-snoc v c (x ∷ xs) = rw (member-snoc v c xs) (regrouped (eqb x v) (member v xs) (eqb c v))
+member-snoc v c (x ∷ xs) = rw (member-snoc v c xs) (sym (or-assoc (eqb x v) (member v xs) (eqb c v)))
 
 pub one-more-seen : (before : List ℕ) (seen c power : ℕ) → power ≡ 2 ^ c → Columns-seen before seen
     → Columns-seen (before ++ (c ∷ [])) (bitOr seen power)

@@ -15,8 +15,8 @@ use grid::fault::REFUSED_COLUMN_BIT;
 use grid::fault::REFUSED_COLUMN_PARITY;
 use grid::fault::REFUSED_COLUMN_TWICE;
 
-// Whether a column has the wrong parity, by its count of ones and without a branch: in an odd array its lowest bit is
-// turned round first, and then the count must be even too.
+// Whether a column has the wrong parity, by its count of ones and without a branch: in an odd array the column's lowest
+// bit is turned round first, and then the count must be even too.
 fn wrong_parity(odd: bool, column: u8) -> bool
     ensures { λ r. ⌜ r ≡ wrong-parity odd column ⌝ }
 {

@@ -1,5 +1,5 @@
--- `grid_arrays::array_fault` meets its contract. The loop's invariant: bit b of what is seen is set exactly when column b stood earlier in this
--- array, `Columns-seen`, and what is found from the present column on is what is found from the first. The measure is the columns left.
+-- `grid_arrays::array_fault` meets its contract. The loop's invariant: `Columns-seen` of the columns before the present one, and what is found
+-- from the present one on is what is found from the first. The measure is the columns left.
 -- Assumes nothing.
 use mathlib.Core.Path.{_≡_, _∙_}
 use Prim.Native.Nat.{_+_, _*_, _-_, _≤_, _<_}
