@@ -147,7 +147,7 @@ static struct match drawn_match(uint32_t players, uint32_t positions, uint32_t w
 
 /* ---- tasks: one call of a contender */
 
-enum work { EXPAND, OPEN_ONE, OPEN_ALL, DEAL, JOIN_KEYS, DRAW_CARD, READ_ONCE, WRITE_PAGE };
+enum work { EXPAND, OPEN_ONE, OPEN_ALL, DEAL, JOIN_KEYS, DRAW_CARD, READ_ONCE, WRITE_PAGE, CHOOSE_WIDTH };
 
 struct task {
     enum work work;
@@ -157,6 +157,7 @@ struct task {
     uint64_t length;     /* for EXPAND */
     uint32_t player;     /* for DRAW_CARD, whose key it is; the others take the first */
     write_page_call *write_page;
+    choose_width_call *choose_width;
     uint8_t *out;        /* has room for what the task writes */
 };
 
@@ -196,6 +197,8 @@ static uint32_t done(const struct task *t, int before)
     case WRITE_PAGE:
         return t->write_page(m->positions, m->value_bytes, m->table, m->table_length, t->out, NSG_MOST_PAGE_BYTES,
                              &written);
+    case CHOOSE_WIDTH:
+        return t->choose_width(m->players, m->positions, m->value_bytes, &m->width);
     default:
         return t->by->deal(m->players, m->positions, m->width, m->value_bytes, m->point, m->value, m->value_bytes, m->arrays,
                            m->arrays_length, m->seeds, m->seeds_length, m->words, m->words_length, t->out, m->keys_length, m->fault);
@@ -405,6 +408,27 @@ static void compare_pages(void)
         }
 }
 
+/* The contenders of Choose width. */
+static const struct {
+    const char *name;
+    choose_width_call *choose_width;
+} choosers[] = {{"ours", nsg_choose_width}, {"plain C", plain_choose_width}};
+enum { CHOOSERS = sizeof choosers / sizeof choosers[0] };
+
+/* Both choose the same width for every board that there is. */
+static void compare_widths(void)
+{
+    for (uint32_t players = NSG_LEAST_PLAYERS; players <= NSG_MOST_PLAYERS; players++)
+        for (uint32_t value_bytes = 1; value_bytes <= NSG_MOST_VALUE_BYTES; value_bytes++)
+            for (uint32_t positions = 1; positions <= NSG_MOST_POSITIONS; positions++) {
+                uint32_t widths[CHOOSERS];
+                for (int i = 0; i < CHOOSERS; i++) {
+                    uint32_t answer = choosers[i].choose_width(players, positions, value_bytes, &widths[i]);
+                    same("choose width", choosers[i].name, answer, (uint8_t *)widths, (uint8_t *)&widths[i], sizeof widths[i]);
+                }
+            }
+}
+
 /* ---- races: tasks that take turns */
 
 struct timing {
@@ -498,15 +522,15 @@ static const struct {
 };
 enum { EXPANSIONS = sizeof expansions / sizeof expansions[0] };
 
-/* In each turn Open one opens square `first`, then the one `step` squares on, and so on, around the board's end. The last board is for Open
-   one alone. */
+/* In each turn Open one opens square `first`, then the one `step` squares on, and so on, around the board's end. The spring board, N 72, has the
+   width that Choose width says. The last board is for Open one alone. */
 static const struct {
     const char *name;
     uint32_t players, positions, width, value_bytes, first, step;
     struct limits open_one, open_all, deal;
 } boards[] = {
-    {"p 4, N 72, μ 24, w 1", 4, 72, 24, 1, 71, 25, {1.00, 0}, {0.65, 0.80}, {0.80, 0}},
-    {"p 6, N 72, μ 48, w 1", 6, 72, 48, 1, 71, 25, {1.00, 0}, {0.65, 0.80}, {0.80, 0}},
+    {"p 4, N 72, μ 36, w 1", 4, 72, 36, 1, 71, 25, {1.00, 0}, {0.65, 0.80}, {0.80, 0}},
+    {"p 6, N 72, μ 36, w 1", 6, 72, 36, 1, 71, 25, {1.00, 0}, {0.65, 0.80}, {0.80, 0}},
     {"p 2, N 256, μ 256, w 16", 2, 256, 256, 16, 255, 0, {1.00, 0}, {0.58, 0}, {0.80, 0}},
     {"p 3, N 65,536, μ 256, w 1", 3, 65536, 256, 1, 65535, 257, {0, 0}, {0.60, 0}, {0.80, 0}},
     {"p 6, N 4,096, μ 256, w 16", 6, 4096, 256, 16, 4095, 257, {0, 0}, {0.58, 0}, {0.80, 0}},
@@ -552,14 +576,27 @@ static const struct {
 };
 enum { PAGES = sizeof pages / sizeof pages[0] };
 
-static struct match matches[BOARDS], growing[2][3], drawing[DECKS], writing[PAGES];
+/* What Choose width is asked. */
+static const struct {
+    const char *name;
+    uint32_t players, positions, value_bytes;
+    double limit;
+} questions[] = {
+    {"p 4, N 72, w 1: the spring board", 4, 72, 1, 1.20},
+    {"p 2, N 1, w 16", 2, 1, 16, 1.20},
+    {"p 6, N 4,096, w 16", 6, 4096, 16, 1.20},
+    {"p 3, N 65,536, w 1", 3, 65536, 1, 1.20},
+};
+enum { QUESTIONS = sizeof questions / sizeof questions[0] };
+
+static struct match matches[BOARDS], growing[2][3], drawing[DECKS], writing[PAGES], choosing[QUESTIONS];
 
 /* All races. BearSSL runs in the races of expansion too, our Expand in one race of Open one, our Open all in the race
-   of Join keys and reading once in the races of Draw card, each as the fourth. In those of Write page ours and plain C
-   run alone. */
+   of Join keys and reading once in the races of Draw card, each as the fourth. In those of Write page and Choose width
+   ours and plain C run alone. */
 static struct {
     struct race expand[EXPANSIONS], open_one[BOARDS], open_all[WHOLE_BOARDS], deal[WHOLE_BOARDS], join_keys, growth[2];
-    struct race draw_card[DECKS], write_page[PAGES];
+    struct race draw_card[DECKS], write_page[PAGES], choose_width[QUESTIONS];
 } races;
 enum { RACES = sizeof races / sizeof(struct race) };
 
@@ -579,7 +616,7 @@ static void prepare_cards(void)
     for (int k = 0; k < DECKS; k++) {
         struct match *m = &drawing[k];
         uint32_t width;
-        if (nsg_choose_width(DECK_PLAYERS, decks[k].cards, &width) != NSG_ACCEPTED)
+        if (nsg_choose_width(DECK_PLAYERS, decks[k].cards, 1, &width) != NSG_ACCEPTED)
             fail("choose width", "ours", "refused");
         *m = drawn_match(DECK_PLAYERS, decks[k].cards, width, 1);
         m->card_bytes = decks[k].card_bytes;
@@ -603,6 +640,18 @@ static void prepare_pages(void)
         for (int i = 0; i < WRITERS; i++)
             enter(&races.write_page[k],
                   (struct task){.work = WRITE_PAGE, .match = &writing[k], .write_page = writers[i].write_page});
+    }
+}
+
+static void prepare_widths(void)
+{
+    compare_widths();
+    for (int k = 0; k < QUESTIONS; k++) {
+        choosing[k] = (struct match){.players = questions[k].players, .positions = questions[k].positions,
+                                     .value_bytes = questions[k].value_bytes};
+        for (int i = 0; i < CHOOSERS; i++)
+            enter(&races.choose_width[k],
+                  (struct task){.work = CHOOSE_WIDTH, .match = &choosing[k], .choose_width = choosers[i].choose_width});
     }
 }
 
@@ -636,6 +685,7 @@ static void prepare(void)
         }
     prepare_cards();
     prepare_pages();
+    prepare_widths();
 }
 
 /* ---- tables */
@@ -726,6 +776,19 @@ static void print_pages(void)
     }
 }
 
+static void print_widths(void)
+{
+    puts("\n## Choose width\n\n"
+         "| board | width | ours, ns | plain C, ns | ours / plain C | at most | spread |\n"
+         "|---|---:|---:|---:|---:|---:|---:|");
+    for (int k = 0; k < QUESTIONS; k++) {
+        const struct timing *t = races.choose_width[k].timings;
+        printf("| %s | %u | %.0f | %.0f |", questions[k].name, choosing[k].width, t[OURS].best, t[PLAIN].best);
+        print_ratio(t[OURS].best / t[PLAIN].best, questions[k].limit);
+        printf(" %.0f %% |\n", spread(t, CHOOSERS));
+    }
+}
+
 static void print_open_one(void)
 {
     const struct timing *t = races.open_one[EXPANDED_BOARD].timings, *open = &t[OURS], *expand = &t[CONTENDERS];
@@ -807,6 +870,7 @@ int main(void)
     print_table();
     print_cards();
     print_pages();
+    print_widths();
     print_open_one();
     print_join();
     print_peer();

@@ -1,6 +1,6 @@
 /* What bench.c times side by side: the library, and two peers that have the library's calls. A slice is a pointer and a length; 0 is
-   accepted. The peers are scheme.c over plain.c's ChaCha20, and scheme.c over libsodium's. Write page needs no cipher: its
-   one peer is page.c. */
+   accepted. The peers are scheme.c over plain.c's ChaCha20, and scheme.c over libsodium's. Write page and Choose width
+   need no cipher: the one peer of each is page.c, and width.c. */
 #include "../include/nosingginger.h"
 #include <stddef.h>
 
@@ -15,6 +15,7 @@ typedef uint32_t draw_card_call(const uint8_t *key, uint64_t key_length, const u
                                 uint32_t card_bytes, uint8_t *out, uint64_t out_length);
 typedef uint32_t write_page_call(uint32_t positions, uint32_t value_bytes, const uint8_t *table, uint64_t table_length,
                                  uint8_t *out, uint64_t out_length, uint32_t *written);
+typedef uint32_t choose_width_call(uint32_t players, uint32_t positions, uint32_t value_bytes, uint32_t *width);
 typedef uint32_t expand_call(const uint8_t *seed, uint64_t seed_length, uint64_t start, uint8_t *out, uint64_t out_length);
 
 deal_call plain_deal, libsodium_deal;
@@ -23,6 +24,7 @@ one_slice_call plain_join_keys, libsodium_join_keys;
 open_one_call plain_open_one, libsodium_open_one;
 draw_card_call plain_draw_card, libsodium_draw_card;
 write_page_call plain_write_page;
+choose_width_call plain_choose_width;
 expand_call plain_expand, libsodium_expand;
 
 /* What scheme.c is given by a cipher: XORs a stretch of a seed's key stream, `length` bytes from byte `start` on, into `out`. */

@@ -7,7 +7,7 @@
      player shares P L      reads shares or answers of P players, L bytes each; writes their XOR in hexadecimal
      player page N W        reads a table of N positions with values of W bytes; writes its page
      player length P N M W  writes the length of a key for P players, N positions, width M and values of W bytes
-     player width P N       writes the grid's width for P players and N positions
+     player width P N W     writes the grid's width for P players, N positions and values of W bytes
      player expand START N  reads a seed; writes N bytes of its row in hexadecimal, from byte START on
      player sensor S        writes the position of sensor S of the spring board
      player sensors         writes the position of each sensor, one on a line
@@ -148,9 +148,10 @@ static int key_length(char **words)
     return 0;
 }
 
-static int choose_width(const char *players, const char *positions)
+static int choose_width(char **words)
 {
-    uint32_t width = 0, number = nsg_choose_width(number_of(players), number_of(positions), &width);
+    uint32_t players = number_of(words[0]), positions = number_of(words[1]), value_bytes = number_of(words[2]);
+    uint32_t width = 0, number = nsg_choose_width(players, positions, value_bytes, &width);
     if (number != NSG_ACCEPTED)
         return refused(number);
     printf("%u\n", (unsigned)width);
@@ -200,15 +201,15 @@ int main(int count, char **words)
         return write_page(number_of(words[2]), number_of(words[3]));
     if (count == 6 && strcmp(words[1], "length") == 0)
         return key_length(words + 2);
-    if (count == 4 && strcmp(words[1], "width") == 0)
-        return choose_width(words[2], words[3]);
+    if (count == 5 && strcmp(words[1], "width") == 0)
+        return choose_width(words + 2);
     if (count == 4 && strcmp(words[1], "expand") == 0)
         return expand(words[2], words[3]);
     if (count == 3 && strcmp(words[1], "sensor") == 0)
         return sensor_position(number_of(words[2]));
     if (count == 2 && strcmp(words[1], "sensors") == 0)
         return sensors();
-    fprintf(stderr, "player: check | open | join | card L | shares P L | page N W | length P N M W | width P N"
+    fprintf(stderr, "player: check | open | join | card L | shares P L | page N W | length P N M W | width P N W"
                     " | expand START N | sensor S | sensors\n");
     return 2;
 }

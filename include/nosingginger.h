@@ -7,7 +7,8 @@
    The words used below
      players       2 to 6, numbered from 0.
      positions     the squares of the board, 1 to 65,536, numbered from 0. The point is the piece's position.
-     width         of the grid, 1 to 256: position a lies in grid row a / width, in cell a % width. nsg_choose_width gives a good one.
+     width         of the grid, 1 to 256: position a lies in grid row a / width, in cell a % width. nsg_choose_width
+                   gives the one that makes keys shortest.
      value_bytes   bytes of the piece's value, 1 to 16. A value of zeros is allowed, and is nowhere to be seen when joined.
      columns       NSG_COLUMNS(players): each grid row has that many columns, each with a column byte, a seed and a row.
      grid rows     NSG_GRID_ROWS(positions, width), at most 256.
@@ -61,7 +62,7 @@ extern "C" {
 #endif
 
 /* The version, which `pkg-config --modversion nosingginger` tells too. */
-#define NSG_VERSION "0.6.0"
+#define NSG_VERSION "0.7.0"
 
 /* THE BOUNDS. */
 #define NSG_LEAST_PLAYERS 2u
@@ -135,10 +136,11 @@ extern "C" {
 
 /* ---- THE BOARD: what its numbers ask for, before anything is dealt. ---- */
 
-/* CHOOSE WIDTH: a grid's width for a board, for which keys are about as short as they can be: the least width with
-   width * width >= positions * columns, or 256 where that is above 256.
-   Refusals, in this order: 1, 2. Writes *width. The board has at most 256 grid rows at the width written. */
-uint32_t nsg_choose_width(uint32_t players, uint32_t positions, uint32_t *width);
+/* CHOOSE WIDTH: the grid's width that makes keys shortest: among the widths 1 to 256 at which the board has at most 256
+   grid rows, the one whose key length, as nsg_key_length gives it, is least, and the smaller where two tie. That length
+   has the key's header in it, so a width of 128 or more costs a byte there.
+   Refusals, in this order: 1, 2, 4. Writes *width. */
+uint32_t nsg_choose_width(uint32_t players, uint32_t positions, uint32_t value_bytes, uint32_t *width);
 
 /* KEY LENGTH: how many bytes each player's key has.
    Refusals, in this order: 1, 2, 3, 4, 5. Writes *length, at most NSG_MOST_KEY_BYTES. */

@@ -3,10 +3,10 @@ import { load } from 'nosingginger';
 import { randomDealing, systemBytes } from 'nosingginger/draw';
 
 const nosingginger = await load();
-const board = { players: 4, positions: 72, width: nosingginger.chooseWidth({ players: 4, positions: 72 }), valueBytes: 1 };
+const width = nosingginger.chooseWidth({ players: 4, positions: 72, valueBytes: 1 });
+const board = { players: 4, positions: 72, width, valueBytes: 1 };
 const dealing = randomDealing(board, systemBytes);
-const keys = nosingginger.deal(dealing);
-const length = nosingginger.keyLength(board);
+const [keys, length] = [nosingginger.deal(dealing), nosingginger.keyLength(board)];
 const shares = [0, 1, 2, 3].map((player) => nosingginger.openOne(keys.subarray(player * length, (player + 1) * length), dealing.point)[0]);
 console.log(`On square ${dealing.point} the players see ${shares.join(', ')}: noise, each alone.`);
 const [value] = nosingginger.joinShares({ players: 4, valueBytes: 1, shares: Uint8Array.from(shares) });

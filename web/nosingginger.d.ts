@@ -95,7 +95,7 @@ export interface Board {
     players: number;
     /** the squares, 1 to 65,536 */
     positions: number;
-    /** of the grid, 1 to 256; chooseWidth gives a good one */
+    /** of the grid, 1 to 256; chooseWidth gives the one that makes keys shortest */
     width: number;
     /** bytes of the piece's value, 1 to 16 */
     valueBytes: number;
@@ -209,8 +209,12 @@ export class Nosingginger {
      */
     expand(seed: Uint8Array, start: number | bigint, out: Uint8Array): Uint8Array;
 
-    /** CHOOSE WIDTH: a grid's width for a board, for which keys are about as short as they can be. Refusals: 1, 2. */
-    chooseWidth(board: { players: number, positions: number }): number;
+    /**
+     * CHOOSE WIDTH: the grid's width that makes keys shortest: among the widths 1 to 256 at which the board has at most
+     * 256 grid rows, the one whose keyLength, which has the header in it, is least, and the smaller where two tie.
+     * Refusals: 1, 2, 4.
+     */
+    chooseWidth(board: { players: number, positions: number, valueBytes: number }): number;
 
     /** SENSOR POSITION: the position that a sensor of the spring board, 0 to 71, lies under. Refusal: 17. */
     sensorPosition(sensor: number): number;

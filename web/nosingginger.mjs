@@ -382,12 +382,14 @@ export class Nosingginger {
     }
 
     /**
-     * CHOOSE WIDTH: the grid's width for a board. Refusals: 1, 2.
-     * @param {{ players: number, positions: number }} board
+     * CHOOSE WIDTH: the grid's width that makes keys shortest: among the widths 1 to 256 at which the board has at most
+     * 256 grid rows, the one whose keyLength, which has the header in it, is least, and the smaller where two tie.
+     * Refusals: 1, 2, 4.
+     * @param {{ players: number, positions: number, valueBytes: number }} board
      * @returns {number}
      */
-    chooseWidth({ players, positions }) {
-        const numbers = [u32(players, 'players'), u32(positions, 'positions')];
+    chooseWidth({ players, positions, valueBytes }) {
+        const numbers = [u32(players, 'players'), u32(positions, 'positions'), u32(valueBytes, 'valueBytes')];
         return this.#value((place) => this.#calls.choose_width(...numbers, place));
     }
 

@@ -411,8 +411,8 @@ function leaveExample() {
 }
 
 function springBoard(players) {
-    const board = { players, positions: SENSORS, width: library.chooseWidth({ players, positions: SENSORS }), valueBytes: 1 };
-    return randomDealing(board);
+    const board = { players, positions: SENSORS, valueBytes: 1 };
+    return randomDealing({ ...board, width: library.chooseWidth(board) });
 }
 
 /** Gives a text to the reader as a file of this name. */

@@ -14,7 +14,8 @@ import { WORDS } from './words.mjs';
 const library = await load(new URL('../target/targets/wasm32/nosingginger.wasm', import.meta.url));
 
 function spring(players, start = players) {
-    return randomDealing({ players, positions: 72, width: library.chooseWidth({ players, positions: 72 }), valueBytes: 1 }, sameEachTime(start));
+    const board = { players, positions: 72, valueBytes: 1 };
+    return randomDealing({ ...board, width: library.chooseWidth(board) }, sameEachTime(start));
 }
 
 const keyBytes = ({ keys, problems }) => {

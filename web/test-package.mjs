@@ -208,7 +208,7 @@ test('README.md\u2019s page says a key\u2019s length', { timeout: 60000 }, async
     asked.length = 0;
     const page = await browser.open(`${origin}/index.html`);
     await page.until(() => document.querySelector('#said').textContent !== '');
-    assert.equal(await page.text('#said'), 'A key of this board has 584 bytes.');
+    assert.equal(await page.text('#said'), 'A key of this board has 551 bytes.');
     // The one thing that is not there is the picture that a browser asks every server for.
     assert.deepEqual(asked.filter((place) => !PAGES[place] && !place.startsWith('/node_modules/') && place !== '/favicon.ico'), []);
     await page.close();

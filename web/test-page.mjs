@@ -46,8 +46,14 @@ function onPage(name, work, look = DESK) {
     });
 }
 
+/** A dealing of a board of so many players, squares and bytes of a value, the same each time. */
+function drawnDealing(players, positions, valueBytes, start = positions + valueBytes) {
+    const board = { players, positions, valueBytes };
+    return randomDealing({ ...board, width: library.chooseWidth(board) }, sameEachTime(start));
+}
+
 function springDealing(players = 6, start = players) {
-    return randomDealing({ players, positions: 72, width: library.chooseWidth({ players, positions: 72 }), valueBytes: 1 }, sameEachTime(start));
+    return drawnDealing(players, 72, 1, start);
 }
 
 const springKeys = (players, start) => keysApart(library, library.deal(springDealing(players, start)));
@@ -492,12 +498,6 @@ onPage('README\u2019s first minute: deal a spring board, save it, close the exam
     assert.equal(await answer(page), found);
     assert.deepEqual((await keyLines(page)).map((line) => line.slice(-5)), prints);
 });
-
-/** A dealing of a board of so many players, squares and bytes of a value, the same each time. */
-function drawnDealing(players, positions, valueBytes) {
-    const width = library.chooseWidth({ players, positions });
-    return randomDealing({ players, positions, width, valueBytes }, sameEachTime(positions + valueBytes));
-}
 
 /** The page of the board that a dealing's keys join to. */
 function pageOfDealing(dealing) {

@@ -14,7 +14,8 @@ export async function loaded(bytes: Uint8Array, instance: WebAssembly.Instance, 
 }
 
 export function called(nosingginger: Nosingginger, bytes: Uint8Array): RefusalNumber | undefined {
-    const board: Board = { players: 2, positions: 6, width: nosingginger.chooseWidth({ players: 2, positions: 6 }), valueBytes: 1 };
+    const width: number = nosingginger.chooseWidth({ players: 2, positions: 6, valueBytes: 1 });
+    const board: Board = { players: 2, positions: 6, width, valueBytes: 1 };
     const dealing: Dealing = randomDealing(board);
     const keys: Uint8Array = nosingginger.deal(randomDealing(dealing, systemBytes), new Uint8Array(2 * nosingginger.keyLength(board)));
     const header: Header = nosingginger.checkKey(keys);
@@ -76,6 +77,8 @@ export async function refused(nosingginger: Nosingginger, bytes: Uint8Array, boa
     nosingginger.keyLength({ players: 2, positions: 6, width: 4 });
     // @ts-expect-error a number is not text
     nosingginger.keyLength({ ...board, players: '2' });
+    // @ts-expect-error a width is chosen for values of some length
+    nosingginger.chooseWidth({ players: 2, positions: 6 });
     // @ts-expect-error nor a BigInt
     nosingginger.sensorPosition(8n);
     // @ts-expect-error a dealing has seeds

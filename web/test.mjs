@@ -38,8 +38,10 @@ function refused(number, call, ...lent) {
     refusedAt(number, null, call, ...lent);
 }
 
-const spring = (players, start = players) =>
-    randomDealing({ players, positions: 72, width: nosingginger.chooseWidth({ players, positions: 72 }), valueBytes: 1 }, sameEachTime(start));
+function spring(players, start = players) {
+    const board = { players, positions: 72, valueBytes: 1 };
+    return randomDealing({ ...board, width: nosingginger.chooseWidth(board) }, sameEachTime(start));
+}
 
 test('the module has no imports and all calls', () => {
     const module = new WebAssembly.Module(moduleBytes);
@@ -97,8 +99,9 @@ test('the example deals, opens and joins, and draws anew each time', () => {
 });
 
 test('key length', () => {
-    const board = { players: 4, positions: 72, width: 24, valueBytes: 1 };
-    assert.equal(nosingginger.keyLength(board), 584);
+    const board = { players: 4, positions: 72, width: 36, valueBytes: 1 };
+    assert.equal(nosingginger.keyLength(board), 551);
+    assert.equal(nosingginger.keyLength({ ...board, width: 24 }), 584);
     assert.equal(nosingginger.keyLength({ players: 6, positions: 65536, width: 256, valueBytes: 16 }), 263176);
     refused(1, () => nosingginger.keyLength({ ...board, players: 7 }));
     refused(1, () => nosingginger.keyLength({ players: 1, positions: 0, width: 0, valueBytes: 0 }));
@@ -109,12 +112,49 @@ test('key length', () => {
     refused(1, () => nosingginger.keyLength({ ...board, players: 0xFFFFFFFF }));
 });
 
-test('choose width, sensor position', () => {
-    assert.equal(nosingginger.chooseWidth({ players: 2, positions: 64 }), 12);
-    assert.equal(nosingginger.chooseWidth({ players: 4, positions: 72 }), 24);
-    assert.equal(nosingginger.chooseWidth({ players: 6, positions: 65536 }), 256);
-    refused(1, () => nosingginger.chooseWidth({ players: 0, positions: 0 }));
-    refused(2, () => nosingginger.chooseWidth({ players: 6, positions: 0 }));
+/** The widths whose keys are shortest, among those at which the board has at most 256 grid rows. */
+function shortestWidths(board) {
+    const widths = Array.from({ length: 256 }, (_, place) => place + 1)
+        .filter((width) => Math.ceil(board.positions / width) <= 256);
+    const lengths = widths.map((width) => nosingginger.keyLength({ ...board, width }));
+    const least = Math.min(...lengths);
+    return widths.filter((_, place) => lengths[place] === least);
+}
+
+test('choose width: the width that makes keys shortest', () => {
+    for (const positions of [1, 2, 36, 64, 72, 128, 256, 257, 400, 892, 16384, 65280, 65535, 65536]) {
+        for (const valueBytes of [1, 2, 5, 11, 13, 16]) {
+            for (const players of [2, 3, 4, 5, 6]) {
+                const board = { players, positions, valueBytes };
+                assert.equal(nosingginger.chooseWidth(board), shortestWidths(board)[0], JSON.stringify(board));
+            }
+        }
+    }
+    // On the last three boards two widths tie, on the first of them with a header of one byte more at 128.
+    for (const [players, positions, valueBytes, ...widths] of [[2, 64, 1, 32], [4, 72, 1, 36], [6, 65536, 1, 256],
+        [4, 892, 1, 112, 128], [2, 36, 11, 6, 9], [3, 400, 13, 20, 25]]) {
+        const board = { players, positions, valueBytes };
+        assert.equal(nosingginger.chooseWidth(board), widths[0]);
+        assert.deepEqual(shortestWidths(board), widths);
+    }
+});
+
+test('choose width: the first number that is out of its range is refused', () => {
+    for (const valueBytes of [0, 17, 257, 0xFFFFFFFF]) {
+        refused(4, () => nosingginger.chooseWidth({ players: 4, positions: 72, valueBytes }));
+        for (const positions of [0, 65537, 65608, 0xFFFFFFFF]) {
+            refused(2, () => nosingginger.chooseWidth({ players: 4, positions, valueBytes }));
+            refused(2, () => nosingginger.chooseWidth({ players: 4, positions, valueBytes: 1 }));
+            for (const players of [0, 1, 7, 260, 0xFFFFFFFF]) {
+                refused(1, () => nosingginger.chooseWidth({ players, positions, valueBytes }));
+                refused(1, () => nosingginger.chooseWidth({ players, positions: 72, valueBytes }));
+                refused(1, () => nosingginger.chooseWidth({ players, positions: 72, valueBytes: 1 }));
+            }
+        }
+    }
+});
+
+test('sensor position', () => {
     const places = Array.from({ length: 72 }, (_, sensor) => nosingginger.sensorPosition(sensor));
     assert.deepEqual(places.slice(0, 17), [0, 1, 2, 3, 4, 5, 6, 7, 15, 14, 13, 12, 11, 10, 9, 8, 16]);
     assert.equal(places[71], 71);
@@ -356,7 +396,7 @@ test('check key, open one, open all: refusals and lent output', () => {
     const wrong = [
         [10, new Uint8Array(0)], [10, Uint8Array.of(4, 0, 0xC8, 0)], [10, Uint8Array.of(4, 0, 0xFF, 0xFF, 0xFF, 0)], [1, changed(0, 7)],
         [2, changed(2, 0)], [3, changed(3, 0)], [4, changed(4, 17)], [5, Uint8Array.of(4, 0, 0x81, 0x02, 1, 1)], [11, changed(1, 4)],
-        [12, Uint8Array.of(4, 0, 72, 24, 1)], [12, key.subarray(0, 583)], [12, Uint8Array.from([...key, 0])], [13, changed(5, key[5] ^ 1)],
+        [12, key.subarray(0, 5)], [12, key.subarray(0, 550)], [12, Uint8Array.from([...key, 0])], [13, changed(5, key[5] ^ 1)],
     ];
     for (const [number, damaged] of wrong) {
         const lent = filled(100);
@@ -478,7 +518,7 @@ test('draw card: the answers join to the wanted card, for every number of player
 test('draw card: every card of a deck, and a key for it each time anew', () => {
     const names = Array.from({ length: 52 }, (_, card) => `card number ${card}`.padEnd(17));
     const deck = new TextEncoder().encode(names.join(''));
-    const board = [4, 52, nosingginger.chooseWidth({ players: 4, positions: 52 })];
+    const board = [4, 52, nosingginger.chooseWidth({ players: 4, positions: 52, valueBytes: 1 })];
     const random = sameEachTime(52);
     const met = new Set();
     names.forEach((name, card) => {
@@ -761,7 +801,13 @@ test('held seed is a part of the key itself', () => {
 
 test('numbers that 32 bits cannot hold and things that are no bytes are the caller\u2019s error', () => {
     for (const players of [-1, 2.5, 2 ** 32, 2 ** 32 + 2, NaN, '2', 2n, undefined]) {
-        assert.throws(() => nosingginger.keyLength({ players, positions: 72, width: 24, valueBytes: 1 }), RangeError);
+        assert.throws(() => nosingginger.keyLength({ players, positions: 72, width: 36, valueBytes: 1 }), RangeError);
+    }
+    for (const number of [-1, 1.5, 2 ** 32, 2 ** 32 + 2, NaN, '2', 2n, undefined]) {
+        for (const name of ['players', 'positions', 'valueBytes']) {
+            const board = { players: 2, positions: 2, valueBytes: 2, [name]: number };
+            assert.throws(() => nosingginger.chooseWidth(board), RangeError);
+        }
     }
     for (const key of [undefined, [1, 2], new ArrayBuffer(4), new Uint16Array(4), 'key']) {
         assert.throws(() => nosingginger.checkKey(key), TypeError);
@@ -850,7 +896,7 @@ const OPERATIONS = {
         return [[part.length === 0 ? 0 : part.byteOffset - key.byteOffset], part];
     },
     9: ([low, high], [seed], out) => [[], nosingginger.expand(seed, (BigInt(high) << 32n) | BigInt(low), out)],
-    10: ([players, positions]) => [[nosingginger.chooseWidth({ players, positions })]],
+    10: ([players, positions, valueBytes]) => [[nosingginger.chooseWidth({ players, positions, valueBytes })]],
     11: ([sensor]) => [[nosingginger.sensorPosition(sensor)]],
     14: ([cardBytes], [key, deck], out) => [[], nosingginger.drawCard(key, deck, cardBytes, out)],
     15: ([positions, valueBytes], [table]) => {

@@ -112,7 +112,7 @@ impl Call {
             JOIN_SHARES => join_shares(a, b, input, output).map(none),
             JOIN_KEYS => join_keys(input, output).map(none),
             EXPAND => expand(input, start_of([a, b]), output).map(none),
-            CHOOSE_WIDTH => choose_width(a, b).map(one),
+            CHOOSE_WIDTH => choose_width(a, b, c).map(one),
             SENSOR_POSITION => sensor_position(a).map(one),
             DRAW_CARD => draw_card(input, &self.inputs[1], a, output).map(none),
             WRITE_PAGE => write_page(a, b, input, output).map(|written| one(written as u32)),

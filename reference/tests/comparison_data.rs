@@ -25,7 +25,7 @@ const ANSWERS: [(u8, &[u32]); 15] = [
     (JOIN_KEYS, &[0, 1, 2, 3, 4, 5, 9, 10, 11, 12, 13, 15]),
     (HELD_SEED, &[0]),
     (EXPAND, &[0, 7, 16]),
-    (CHOOSE_WIDTH, &[0, 1, 2]),
+    (CHOOSE_WIDTH, &[0, 1, 2, 4]),
     (SENSOR_POSITION, &[0, 17]),
     (
         DEALING_PROGRAM,
@@ -37,7 +37,7 @@ const ANSWERS: [(u8, &[u32]); 15] = [
 ];
 
 /// The file's fingerprint, fixed so that every machine makes the same bytes.
-const FINGERPRINT: u64 = 0xA105_E86A_4CB1_9F10;
+const FINGERPRINT: u64 = 0x23BA_753F_7757_B605;
 
 /// FNV-1a on 64 bits.
 fn fingerprint(bytes: &[u8]) -> u64 {
@@ -51,8 +51,8 @@ fn the_data_is_enough_and_the_same_each_time() {
     let cases = all();
     let file = write_file(&cases);
     assert_eq!(write_file(&all()), file);
-    assert_eq!(cases.len(), 5_216);
-    assert_eq!(file.len(), 2_523_520);
+    assert_eq!(cases.len(), 5_289);
+    assert_eq!(file.len(), 2_528_484);
     assert_eq!(fingerprint(&file), FINGERPRINT);
     // Every answer that an operation can give, and no other.
     let mut met: BTreeMap<u8, BTreeSet<u32>> = BTreeMap::new();

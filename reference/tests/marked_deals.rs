@@ -1,4 +1,5 @@
-//! Document 01, "Marked deals", line by line, and the numbers of "Bytes of a key".
+//! Document 01, "Marked deals", line by line, with document 02's widths, and the numbers of "Bytes of
+//! a key".
 
 use reference::deal::{array_fault, last_word, mark_bytes};
 use reference::key::key_length;
@@ -50,31 +51,19 @@ fn last_word_and_shares_of_given_rows() {
     }
 }
 
+/// "with w 1 the † widths become 32, 36 and 256".
 #[test]
 fn widths() {
-    assert_eq!(choose_width(2, 64), Ok(12));
-    assert_eq!(choose_width(4, 72), Ok(24));
-    assert_eq!(choose_width(6, 65_536), Ok(256));
-}
-
-/// The least μ with μ × μ ≥ N × J, or 256, for all p and N.
-#[test]
-fn every_width_is_the_least() {
-    for players in 2..=6 {
-        for positions in 1..=65_536 {
-            let area = positions << (players - 1);
-            let width = choose_width(players, positions).unwrap();
-            assert!(width == 256 || width * width >= area);
-            assert!(width == 1 || (width - 1) * (width - 1) < area);
-            // A chosen width is never turned away.
-            assert!(key_length(players, positions, width, 1).is_ok());
-        }
-    }
+    assert_eq!(choose_width(2, 64, 1), Ok(32));
+    assert_eq!(choose_width(4, 72, 1), Ok(36));
+    assert_eq!(choose_width(6, 65_536, 1), Ok(256));
 }
 
 #[test]
 fn key_lengths() {
     assert_eq!(key_length(4, 72, 24, 1), Ok(584));
+    // "that is 36 with 551 bytes, where 24 gave 584".
+    assert_eq!(key_length(4, 72, 36, 1), Ok(551));
     // The printed deal: two keys in 158 bytes.
     assert_eq!(key_length(2, 6, 4, 1), Ok(79));
     // The shortest key and the longest.

@@ -62,7 +62,7 @@ fn drawn(numbers: [u32; 4], start: u64) -> Drawn {
 }
 
 #[test]
-fn key_length_and_width() {
+fn key_lengths() {
     assert_eq!(key_length(7, 0, 0, 0), Err(1));
     assert_eq!(key_length(1, 0, 257, 17), Err(1));
     assert_eq!(key_length(6, 0, 0, 0), Err(2));
@@ -75,10 +75,36 @@ fn key_length_and_width() {
     assert_eq!(key_length(2, 257, 1, 1), Err(5));
     assert!(key_length(2, 256, 1, 1).is_ok());
     assert!(key_length(2, 1, 256, 16).is_ok());
-    assert_eq!(choose_width(1, 0), Err(1));
-    assert_eq!(choose_width(7, 65_537), Err(1));
-    assert_eq!(choose_width(2, 0), Err(2));
-    assert_eq!(choose_width(2, 65_537), Err(2));
+}
+
+/// 1, then 2, then 4, whatever stands behind the first that fits, and each alone.
+#[test]
+fn widths() {
+    let wrong_players = [0, 1, 7, 256 + 2, 65_536 + 6, 1 << 31, u32::MAX];
+    let wrong_positions = [0, 65_537, 65_536 + 72, 1 << 31, u32::MAX];
+    let wrong_value_widths = [0, 17, 256 + 1, 65_536 + 1, 1 << 31, u32::MAX];
+    for players in wrong_players {
+        for positions in [1, 65_536].into_iter().chain(wrong_positions) {
+            for value_width in [1, 16].into_iter().chain(wrong_value_widths) {
+                assert_eq!(choose_width(players, positions, value_width), Err(1));
+            }
+        }
+    }
+    for players in 2..=6 {
+        for positions in wrong_positions {
+            for value_width in [1, 16].into_iter().chain(wrong_value_widths) {
+                assert_eq!(choose_width(players, positions, value_width), Err(2));
+            }
+        }
+        for positions in [1, 65_536] {
+            for value_width in wrong_value_widths {
+                assert_eq!(choose_width(players, positions, value_width), Err(4));
+            }
+            for value_width in [1, 16] {
+                assert!(choose_width(players, positions, value_width).is_ok());
+            }
+        }
+    }
 }
 
 /// The start plus the length is at most 4,096, or it is not, also where the sum is small modulo

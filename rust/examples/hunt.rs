@@ -77,8 +77,8 @@ fn main() -> Result<(), Box<dyn Error>> {
     let mut source = File::open("/dev/urandom")?;
     let random = &mut |bytes: &mut [u8]| source.read_exact(bytes);
 
-    let (players, positions) = (4, 72);
-    let board = Board { players, positions, width: choose_width(players, positions)?, value_bytes: 1 };
+    let (players, positions, value_bytes) = (4, 72, 1);
+    let board = Board { players, positions, width: choose_width(players, positions, value_bytes)?, value_bytes };
     let piece = Piece { point: below(positions as usize, random)? as u32, value: 1 + below(255, random)? as u8 };
     let keys = dealt(board, piece, random)?;
     println!("Hidden: {:02X} on position {}. Each of {players} keys has {} bytes.", piece.value, piece.point, board.key_len()?);

@@ -58,11 +58,11 @@ const _: () = assert!(usize::BITS >= 32);
 ///
 /// ```
 /// # use nosingginger::{Board, Refusal};
-/// let spring = Board { players: 4, positions: 72, width: 24, value_bytes: 1 };
-/// assert_eq!((spring.columns()?, spring.grid_rows()?), (8, 3));
+/// let spring = Board { players: 4, positions: 72, width: 36, value_bytes: 1 };
+/// assert_eq!((spring.columns()?, spring.grid_rows()?), (8, 2));
 /// // What deal is lent, beside the value's bytes; what it writes; what open_all and join_keys write.
-/// assert_eq!((spring.arrays_len()?, spring.seeds_len()?, spring.words_len()?), (24, 768, 168));
-/// assert_eq!((spring.key_len()?, spring.keys_len()?), (584, 2_336));
+/// assert_eq!((spring.arrays_len()?, spring.seeds_len()?, spring.words_len()?), (16, 512, 252));
+/// assert_eq!((spring.key_len()?, spring.keys_len()?), (551, 2_204));
 /// assert_eq!(spring.table_len()?, 72);
 /// // What draw_card is lent beside the key, for cards of 100 bytes.
 /// assert_eq!(spring.deck_len(100)?, 7_200);
@@ -78,7 +78,7 @@ pub struct Board {
     /// Positions, 1 to 65,536, numbered from 0: the squares of the board.
     pub positions: u32,
     /// Grid width, 1 to 256: the cells of a grid row. Position a lies in grid row a div width, cell a mod width, and there are at most 256
-    /// grid rows. [`choose_width`](crate::choose_width) gives the one that makes keys short.
+    /// grid rows. [`choose_width`](crate::choose_width) gives the one that makes keys shortest.
     pub width: u32,
     /// Value width, 1 to 16: the bytes of a value and of a share.
     pub value_bytes: u32,

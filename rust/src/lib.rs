@@ -92,8 +92,8 @@ fn lent_out(bytes: &mut [u8]) -> (*mut u8, u64) {
 ///
 /// ```
 /// # use nosingginger::{key_length, Board, Refusal};
-/// let spring = Board { players: 4, positions: 72, width: 24, value_bytes: 1 };
-/// assert_eq!(key_length(spring), Ok(584));
+/// let spring = Board { players: 4, positions: 72, width: 36, value_bytes: 1 };
+/// assert_eq!(key_length(spring), Ok(551));
 /// assert_eq!(key_length(Board { width: 0, ..spring }), Err(Refusal::Width));
 /// ```
 pub fn key_length(board: Board) -> Result<u32, Refusal> {
@@ -370,16 +370,20 @@ pub fn expand(seed: &[u8], start: u64, out: &mut [u8]) -> Result<(), Refusal> {
     answered(unsafe { raw::nsg_expand(seed, length, start, out, out_length) })
 }
 
-/// **Choose width**: the grid width that makes keys short, stopped at 256.
+/// **Choose width**: the grid width that makes keys shortest. Among the widths 1 to 256 at which the board has at most
+/// 256 grid rows it is the one whose [`key_length`], which has the header in it, is least, and the smaller where two tie.
 ///
-/// Refuses [`Players`](Refusal::Players), [`Positions`](Refusal::Positions).
+/// Refuses [`Players`](Refusal::Players), [`Positions`](Refusal::Positions), [`ValueBytes`](Refusal::ValueBytes).
 ///
 /// ```
-/// assert_eq!(nosingginger::choose_width(4, 72), Ok(24));
+/// # use nosingginger::{choose_width, key_length, Board};
+/// assert_eq!(choose_width(4, 72, 1), Ok(36));
+/// let key_bytes = |width| key_length(Board { players: 4, positions: 72, width, value_bytes: 1 });
+/// assert_eq!((key_bytes(36), key_bytes(24)), (Ok(551), Ok(584)));
 /// ```
-pub fn choose_width(players: u32, positions: u32) -> Result<u32, Refusal> {
+pub fn choose_width(players: u32, positions: u32, value_bytes: u32) -> Result<u32, Refusal> {
     let mut width = 0;
-    answered(unsafe { raw::nsg_choose_width(players, positions, &mut width) }).map(|()| width)
+    answered(unsafe { raw::nsg_choose_width(players, positions, value_bytes, &mut width) }).map(|()| width)
 }
 
 /// **Sensor position**: the position of a sensor of the spring board, whose 72 sensors run in a line that turns at each end.

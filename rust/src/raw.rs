@@ -78,7 +78,7 @@ extern "C" {
     pub fn nsg_expand(seed: *const u8, seed_length: u64, start: u64, out: *mut u8, out_length: u64) -> u32;
 
     /// [`choose_width`](crate::choose_width); the width goes to `width`.
-    pub fn nsg_choose_width(players: u32, positions: u32, width: *mut u32) -> u32;
+    pub fn nsg_choose_width(players: u32, positions: u32, value_bytes: u32, width: *mut u32) -> u32;
 
     /// [`sensor_position`](crate::sensor_position); the position goes to `position`.
     pub fn nsg_sensor_position(sensor: u32, position: *mut u32) -> u32;

@@ -44,9 +44,30 @@ fn of_boards() {
     assert_eq!(key_length(Board { value_bytes: 17, ..BOARD }), Err(Refusal::ValueBytes));
     assert_eq!(key_length(Board { value_bytes: MOST_SHARE_BYTES, ..BOARD }), Err(Refusal::ValueBytes));
     assert_eq!(key_length(Board { positions: 1_025, ..BOARD }), Err(Refusal::GridRows));
-    assert_eq!(choose_width(1, 72), Err(Refusal::Players));
-    assert_eq!(choose_width(4, 65_537), Err(Refusal::Positions));
     assert_eq!(sensor_position(72), Err(Refusal::Sensor));
+}
+
+/// Players, positions, value bytes: the first that is out of its range is refused, whatever stands behind it.
+#[test]
+fn of_widths() {
+    // The first of each is in its range; some of the others are so in their lowest bits alone.
+    let all_players = [4, 0, 1, 7, 1 << 8 | 4, 1 << 31 | 4, u32::MAX];
+    let all_positions = [72, 0, 65_537, 1 << 16 | 72, 1 << 31 | 72, u32::MAX];
+    let all_value_bytes = [1, 0, 17, 1 << 8 | 1, 1 << 31 | 1, u32::MAX];
+    for players in all_players {
+        for positions in all_positions {
+            for value_bytes in all_value_bytes {
+                let wanted = match (players, positions, value_bytes) {
+                    (4, 72, 1) => Ok(36),
+                    (4, 72, _) => Err(Refusal::ValueBytes),
+                    (4, _, _) => Err(Refusal::Positions),
+                    _ => Err(Refusal::Players),
+                };
+                let given = choose_width(players, positions, value_bytes);
+                assert_eq!(given, wanted, "{players}, {positions}, {value_bytes}");
+            }
+        }
+    }
 }
 
 #[test]

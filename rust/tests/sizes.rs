@@ -1,9 +1,10 @@
 //! The sizes that a board tells, held to what the calls accept: a length one less or one more is refused, or is too short for the output.
+//! And the width that makes the shortest key, held to every other width.
 
 use nosingginger::{
     check_key, choose_width, deal, draw_card, held_seed, join_keys, key_length, open_all, page_len, write_page, Board, Dealing, Refusal,
     MOST_ARRAYS_BYTES, MOST_COLUMNS, MOST_DECK_BYTES, MOST_GRID_ROWS, MOST_KEYS_BYTES, MOST_KEY_BYTES, MOST_PAGE_BYTES, MOST_POSITIONS,
-    MOST_SEEDS_BYTES, MOST_SHARE_BYTES, MOST_TABLE_BYTES, MOST_VALUE_BYTES, MOST_WORDS_BYTES,
+    MOST_SEEDS_BYTES, MOST_SHARE_BYTES, MOST_TABLE_BYTES, MOST_VALUE_BYTES, MOST_WIDTH, MOST_WORDS_BYTES,
 };
 use reference::draw::Generator;
 
@@ -58,7 +59,7 @@ fn boards() -> Vec<Board> {
     let mut boards = vec![LARGEST];
     for players in 2..=6 {
         for (positions, value_bytes) in [(1, 1), (2, 16), (72, 1), (75, 3), (1_000, 2)] {
-            let chosen = choose_width(players, positions).unwrap();
+            let chosen = choose_width(players, positions, value_bytes).unwrap();
             for width in [chosen, 256, positions.min(256), positions.div_ceil(256), 7] {
                 boards.push(Board { players, positions, width, value_bytes });
             }
@@ -164,6 +165,46 @@ fn a_page_has_this_length_and_no_other() {
         }
     }
     assert_eq!(page_len(MOST_POSITIONS, MOST_VALUE_BYTES), Ok(MOST_PAGE_BYTES));
+}
+
+/// The chosen width is accepted, no accepted one makes a shorter key, and every smaller one makes a longer key.
+fn chosen_makes_the_shortest_key(players: u32, positions: u32, value_bytes: u32) {
+    let width = choose_width(players, positions, value_bytes).unwrap();
+    let chosen = Board { players, positions, width, value_bytes };
+    let least = key_length(chosen).unwrap();
+    for width in 1..=MOST_WIDTH {
+        match key_length(Board { width, ..chosen }) {
+            Ok(other) => assert!(if width < chosen.width { least < other } else { least <= other }, "{chosen:?}, {width}"),
+            Err(refusal) => assert_eq!(refusal, Refusal::GridRows),
+        }
+    }
+}
+
+#[test]
+fn the_chosen_width_makes_the_shortest_key() {
+    for players in 2..=6 {
+        for value_bytes in [1, 2, 5, 11, 13, 16] {
+            for positions in [1, 2, 36, 64, 72, 128, 256, 257, 400, 892, 16_383, 16_384, 65_280, 65_281, 65_535, 65_536] {
+                chosen_makes_the_shortest_key(players, positions, value_bytes);
+            }
+        }
+    }
+    for (players, positions, value_bytes, width) in [(2, 64, 1, 32), (4, 72, 1, 36), (6, 65_536, 1, 256)] {
+        assert_eq!(choose_width(players, positions, value_bytes), Ok(width));
+    }
+}
+
+/// Where two widths make keys of one length, the smaller is chosen, also where the larger takes a byte more in the header.
+#[test]
+fn of_two_widths_that_tie_the_smaller_is_chosen() {
+    for (players, positions, value_bytes, widths, key_bytes) in
+        [(4, 892, 1, [112, 128], 1_934), (2, 36, 11, [6, 9], 335), (3, 400, 13, [20, 25], 2_346)]
+    {
+        assert_eq!(choose_width(players, positions, value_bytes), Ok(widths[0]));
+        for width in widths {
+            assert_eq!(key_length(Board { players, positions, width, value_bytes }), Ok(key_bytes));
+        }
+    }
 }
 
 /// A player holds the seeds of half of the columns in every grid row, and none behind the last.

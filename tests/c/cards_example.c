@@ -5,7 +5,7 @@
 #include <stdio.h>
 #include <string.h>
 
-enum { PHONES = 3, CARDS = 52, CARD_BYTES = 32, WIDTH = 15, KEY_BYTES = 325, COLUMNS = NSG_COLUMNS(PHONES) };
+enum { PHONES = 3, CARDS = 52, CARD_BYTES = 32, WIDTH = 26, KEY_BYTES = 239, COLUMNS = NSG_COLUMNS(PHONES) };
 
 uint32_t ask_for(uint32_t card, uint8_t *keys);
 uint32_t answer(const uint8_t *key, uint64_t key_length, const uint8_t *deck, uint8_t *out);

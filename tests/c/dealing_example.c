@@ -1,6 +1,6 @@
 /* Deals with the C example of docs/DEALING.md, over a counted sequence in the place of a noise chip.
 
-     dealing_example                    on every point of the spring board. Every deal joins to its piece and finds no bad column; it takes 957
+     dealing_example                    on every point of the spring board. Every deal joins to its piece and finds no bad column; it takes 778
                                         bytes and those drawn again, of which most deals have none.
      dealing_example POINT              once, with the bad column that the example tells: number, grid row, column and byte.
      dealing_example PLAYERS POSITIONS WIDTH VALUE_BYTES POINT COLUMN..
@@ -14,7 +14,7 @@ uint8_t noise_byte(void);
 void bad_column(uint32_t number, uint32_t grid_row, uint32_t column, uint8_t byte);
 uint32_t deal_spring_board(uint32_t point, const uint8_t *value, uint8_t *keys);
 
-enum { POINTS = 72, KEYS = 4 * 584, LEAST = 957, NUMBERS = 5, MOST = 4096, UNTOLD = 0xFFFF };
+enum { POINTS = 72, KEYS = 4 * 551, LEAST = 778, NUMBERS = 5, MOST = 4096, UNTOLD = 0xFFFF };
 
 static unsigned long drawn;
 static unsigned told;

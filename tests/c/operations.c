@@ -109,20 +109,44 @@ static void test_key_lengths(uint32_t players, uint32_t positions)
     }
 }
 
-/* Document 01's lines on widths, lengths and sensors, and what must hold of all of them. */
+/* The width of the shortest key, by request (vi): all widths at which Key length accepts the board are tried, and the
+   first that is shortest is kept. */
+static void test_width(uint32_t players, uint32_t positions, uint32_t value_bytes)
+{
+    uint32_t best = 0, least = UINT32_MAX, length, chosen = 0;
+    for (uint32_t width = 1; width <= NSG_MOST_WIDTH; width++)
+        if (nsg_key_length(players, positions, width, value_bytes, &length) == NSG_ACCEPTED && length < least) {
+            best = width;
+            least = length;
+        }
+    CHECK(nsg_choose_width(players, positions, value_bytes, &chosen) == NSG_ACCEPTED && chosen == best);
+}
+
+/* Request (vi)'s widths, three boards at which two widths tie, and all kinds of boards. */
+static void test_widths(void)
+{
+    static const struct {
+        uint32_t players, positions, value_bytes, width;
+    } given[] = {{2, 64, 1, 32}, {4, 72, 1, 36}, {6, 65536, 1, 256},
+                 {4, 892, 1, 112}, {2, 36, 11, 6}, {3, 400, 13, 20}};
+    static const uint32_t values[] = {1, 2, 5, 11, 13, 16};
+    for (unsigned i = 0; i < sizeof given / sizeof given[0]; i++) {
+        uint32_t width = 0;
+        CHECK(nsg_choose_width(given[i].players, given[i].positions, given[i].value_bytes, &width) == NSG_ACCEPTED);
+        CHECK(width == given[i].width);
+    }
+    for (uint32_t players = NSG_LEAST_PLAYERS; players <= NSG_MOST_PLAYERS; players++)
+        for (unsigned i = 0; i < sizeof values / sizeof values[0]; i++)
+            for (uint32_t positions = 1; positions <= NSG_MOST_POSITIONS;
+                 positions = positions < 80 ? positions + 1 : positions * 6 / 5)
+                test_width(players, positions, values[i]);
+}
+
+/* Document 01's lines on lengths and sensors, and what must hold of all of them. */
 static void test_numbers(void)
 {
     uint32_t number = 0;
-    CHECK(nsg_choose_width(2, 64, &number) == NSG_ACCEPTED && number == 12);
-    CHECK(nsg_choose_width(4, 72, &number) == NSG_ACCEPTED && number == 24);
-    CHECK(nsg_choose_width(6, 65536, &number) == NSG_ACCEPTED && number == 256);
-    for (uint32_t players = NSG_LEAST_PLAYERS; players <= NSG_MOST_PLAYERS; players++)
-        for (uint32_t positions = 1; positions <= NSG_MOST_POSITIONS; positions = positions < 300 ? positions + 1 : positions * 3 / 2) {
-            uint32_t least = 1;
-            while (least < NSG_MOST_WIDTH && least * least < positions * NSG_COLUMNS(players))
-                least++;
-            CHECK(nsg_choose_width(players, positions, &number) == NSG_ACCEPTED && number == least);
-        }
+    CHECK(nsg_key_length(4, 72, 36, 1, &number) == NSG_ACCEPTED && number == 551);
     CHECK(nsg_key_length(4, 72, 24, 1, &number) == NSG_ACCEPTED && number == 584);
     for (uint32_t players = NSG_LEAST_PLAYERS; players <= NSG_MOST_PLAYERS; players++)
         for (uint32_t positions = 1; positions <= NSG_MOST_POSITIONS; positions = positions < 300 ? positions + 1 : positions * 5 / 4)
@@ -440,6 +464,7 @@ void test_operations(void)
                                           {2, 300, 256, 15}, {4, 60, 27, 12}, {6, 30, 19, 7}};
     test_printed_deal();
     test_expand();
+    test_widths();
     test_numbers();
     for (unsigned i = 0; i < sizeof boards / sizeof boards[0]; i++) {
         test_dealing(boards[i], 0);

@@ -12,8 +12,8 @@ static const char *const names[FUNCTIONS] = {"nsg_key_length", "nsg_deal", "nsg_
                                              "nsg_draw_card", "nsg_join_shares", "nsg_join_keys", "nsg_write_page",
                                              "nsg_expand", "nsg_choose_width", "nsg_sensor_position"};
 
-/* Document 01, request (i) for Deal, (iii) for Draw card and (iv) for Write page: which numbers each operation gives. A
-   row ends with 0. */
+/* Document 01, request (i) for Deal, (iii) for Draw card, (iv) for Write page and (vi) for Choose width: which numbers
+   each operation gives. A row ends with 0. */
 static const uint8_t given[FUNCTIONS][NUMBERS] = {
     {1, 2, 3, 4, 5},
     {1, 2, 3, 4, 5, 6, 7, 9, 18, 19, 20},
@@ -25,7 +25,7 @@ static const uint8_t given[FUNCTIONS][NUMBERS] = {
     {1, 2, 3, 4, 5, 9, 10, 11, 12, 13, 15},
     {2, 4, 7, 9},
     {7, 16},
-    {1, 2},
+    {1, 2, 4},
     {17},
 };
 
@@ -48,6 +48,13 @@ static void refuse_key_length(uint32_t players, uint32_t positions, uint32_t wid
     CHECK(length == 0xDEADBEEF);
 }
 
+static void refuse_width(uint32_t players, uint32_t positions, uint32_t value_bytes, uint32_t wanted)
+{
+    uint32_t width = 0xDEADBEEF;
+    expect(CHOOSE_WIDTH, nsg_choose_width(players, positions, value_bytes, &width), wanted);
+    CHECK(width == 0xDEADBEEF);
+}
+
 static void test_numbers_refused(void)
 {
     static const uint32_t players[] = {0, 1, 7, 256 + 2, UINT32_MAX}, positions[] = {0, 65537, UINT32_MAX}, widths[] = {0, 257, UINT32_MAX};
@@ -56,8 +63,11 @@ static void test_numbers_refused(void)
     for (int i = 0; i < 5; i++) {
         refuse_key_length(players[i], 72, 24, 1, NSG_REFUSED_PLAYERS);
         refuse_key_length(players[i], 0, 0, 0, NSG_REFUSED_PLAYERS);
-        expect(CHOOSE_WIDTH, nsg_choose_width(players[i], 72, &number), NSG_REFUSED_PLAYERS);
-        expect(CHOOSE_WIDTH, nsg_choose_width(players[i], 0, &number), NSG_REFUSED_PLAYERS);
+        refuse_width(players[i], 72, 1, NSG_REFUSED_PLAYERS);
+        refuse_width(players[i], 72, 0, NSG_REFUSED_PLAYERS);
+        refuse_width(players[i], 0, 0, NSG_REFUSED_PLAYERS);
+        refuse_width(4, 72, values[i], NSG_REFUSED_VALUE_BYTES);
+        refuse_width(6, 65536, values[i], NSG_REFUSED_VALUE_BYTES);
         refuse_key_length(4, 72, 24, values[i], NSG_REFUSED_VALUE_BYTES);
         refuse_key_length(4, 65536, 255, values[i], NSG_REFUSED_VALUE_BYTES);
     }
@@ -66,7 +76,8 @@ static void test_numbers_refused(void)
         refuse_key_length(4, positions[i], 0, 0, NSG_REFUSED_POSITIONS);
         refuse_key_length(4, 72, widths[i], 1, NSG_REFUSED_WIDTH);
         refuse_key_length(4, 72, widths[i], 0, NSG_REFUSED_WIDTH);
-        expect(CHOOSE_WIDTH, nsg_choose_width(4, positions[i], &number), NSG_REFUSED_POSITIONS);
+        refuse_width(4, positions[i], 1, NSG_REFUSED_POSITIONS);
+        refuse_width(4, positions[i], 17, NSG_REFUSED_POSITIONS);
     }
     for (int i = 0; i < 4; i++)
         expect(SENSOR_POSITION, nsg_sensor_position(sensors[i], &number), NSG_REFUSED_SENSOR);

@@ -39,7 +39,7 @@ static void call_write_narrow(void) { answer = write_page(1023, 1, &narrow_table
 static void call_held_seed(void) { answer = nsg_held_seed(keys.bytes, length, 3, 31) + nsg_held_seed(keys.bytes, length, 3, 30) == 0; }
 static void call_expand(void) { answer = nsg_expand(draw.seeds.bytes, 32, 0, table.bytes, NSG_MOST_EXPANDED_BYTES); }
 static void call_expand_later(void) { answer = nsg_expand(draw.seeds.bytes, 32, 63, table.bytes, 4096 - 63); }
-static void call_choose_width(void) { answer = nsg_choose_width(6, 65536, &number); }
+static void call_choose_width(void) { answer = nsg_choose_width(6, 65536, 16, &number); }
 static void call_sensor_position(void) { answer = nsg_sensor_position(71, &number); }
 
 static const struct {

@@ -159,7 +159,7 @@ static uint32_t call(const struct one_case *c, const uint8_t *input, uint8_t *ou
     case JOIN_KEYS: return nsg_join_keys(input, l[0], out, c->lent);
     case HELD_SEED: numbers[0] = (uint32_t)nsg_held_seed(input, l[0], in[0], in[1]); return 0;
     case EXPAND: return nsg_expand(input, l[0], (uint64_t)in[1] << 32 | in[0], out, c->lent);
-    case CHOOSE_WIDTH: return nsg_choose_width(in[0], in[1], numbers);
+    case CHOOSE_WIDTH: return nsg_choose_width(in[0], in[1], in[2], numbers);
     case SENSOR_POSITION: return nsg_sensor_position(in[0], numbers);
     case DRAW_CARD: return nsg_draw_card(input, l[0], input + l[0], l[1], in[0], out, c->lent);
     case WRITE_PAGE: return nsg_write_page(in[0], in[1], input, l[0], out, c->lent, numbers);
@@ -612,7 +612,7 @@ static void draw_board(struct dealing *d, uint32_t limit)
         d->value_bytes = below(2) == 0 ? 1 : 1 + below(VALUE_BYTES);
         d->width = 1 + below(WIDTH);
         if (below(2) == 0)
-            nsg_choose_width(d->players, d->positions, &d->width);
+            nsg_choose_width(d->players, d->positions, d->value_bytes, &d->width);
         d->point = below(d->positions);
     } while (!place(d, limit));
 }
@@ -816,7 +816,7 @@ static void random_small_calls(uint32_t limit)
     try_expand();
     called(nsg_key_length(below(8), below(2) == 0 ? below(POSITIONS + 2) : below(300), below(WIDTH + 2), below(VALUE_BYTES + 2), &number));
     record_number(number);
-    called(nsg_choose_width(below(8), below(2) == 0 ? below(POSITIONS + 2) : below(300), &number));
+    called(nsg_choose_width(below(8), below(2) == 0 ? below(POSITIONS + 2) : below(300), below(VALUE_BYTES + 2), &number));
     record_number(number);
     called(nsg_sensor_position(below(NSG_SENSORS + 8), &number));
     record_number(number);

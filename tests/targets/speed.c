@@ -31,7 +31,7 @@ static double best(uint32_t positions, uint32_t width, int times)
 
 int main(void)
 {
-    double small = best(72, 48, 2000), large = best(16384, 256, 200);
+    double small = best(72, 36, 2000), large = best(16384, 256, 200);
     printf("%.0f %.0f\n", small, large);
     return 0;
 }

@@ -47,5 +47,5 @@ if (data) {
   process.exitCode = test.test();
   process.stdout.write(Buffer.concat(written));
 } else {
-  console.log(best(72, 48, 2000), best(16384, 256, 200));
+  console.log(best(72, 36, 2000), best(16384, 256, 200));
 }

@@ -8,8 +8,9 @@ use borrow.Author.Tests.{eq-eqb, ne-eqb, le-leb, lt-leb, le-ltb, lt-ltb}
 use lib.ListN.{length}
 use Rattle.chacha20.specs.From.{expand-from}
 use Rattle.chacha20.proofs.Stream.{word-from}
-use Rattle.grid.specs.Width.{width, sensor-position}
+use Rattle.grid.specs.Sensors.{sensor-position}
 use Rattle.grid.proofs.Refusing.{In, Out}
+use Rattle.key_width.specs.Width.{width}
 use Rattle.call_answers.specs.Answers.{Put-says, says, expand-refusal, Expand-says, width-refusal, Width-says, Sensor-says}
 use Rattle.writer.specs.Written.{in-front}
 use Rattle.writer.proofs.Laws.{in-front-whole}
@@ -63,18 +64,22 @@ module _ (seed : List ℕ) (s : ℕ) (o : List ℕ) where
 
 -- CHOOSE WIDTH AND SENSOR POSITION
 
-module _ (p n : ℕ) (r : Answer) where
-  pub width-refused-1 : Out 2 p 6 → r .refusal ≡ 1 → r .value ≡ 0 → Width-says p n r
+module _ (p n w : ℕ) (r : Answer) where
+  pub width-refused-1 : r .refusal ≡ 1 → r .value ≡ 0 → Out 2 p 6 → Width-says p n w r
   unfolding Width-says width-refusal
-  width-refused-1 h e f = rw h (says-refused 1 _ r (λ z. omega arith) e f)
+  width-refused-1 e f h = rw h (says-refused 1 _ r (λ z. omega arith) e f)
 
-  pub width-refused-2 : In 2 p 6 → Out 1 n 65536 → r .refusal ≡ 2 → r .value ≡ 0 → Width-says p n r
+  pub width-refused-2 : r .refusal ≡ 2 → r .value ≡ 0 → In 2 p 6 → Out 1 n 65536 → Width-says p n w r
   unfolding Width-says width-refusal
-  width-refused-2 h k e f = rw (h, k) (says-refused 2 _ r (λ z. omega arith) e f)
+  width-refused-2 e f h k = rw (h, k) (says-refused 2 _ r (λ z. omega arith) e f)
 
-  pub width-given : In 2 p 6 → In 1 n 65536 → r .refusal ≡ 0 → r .value ≡ width p n → Width-says p n r
+  pub width-refused-4 : r .refusal ≡ 4 → r .value ≡ 0 → In 2 p 6 → In 1 n 65536 → Out 1 w 16 → Width-says p n w r
   unfolding Width-says width-refusal
-  width-given h k e f = rw (h, k) (says-value 0 _ r refl e f)
+  width-refused-4 e f h k l = rw (h, k, l) (says-refused 4 _ r (λ z. omega arith) e f)
+
+  pub width-given : r .refusal ≡ 0 → r .value ≡ width p n w → In 2 p 6 → In 1 n 65536 → In 1 w 16 → Width-says p n w r
+  unfolding Width-says width-refusal
+  width-given e f h k l = rw (h, k, l) (says-value 0 _ r refl e f)
 
 module _ (s : ℕ) (r : Answer) where
   pub sensor-refused : 72 ≤ s → r .refusal ≡ 17 → r .value ≡ 0 → Sensor-says s r

@@ -1,4 +1,5 @@
--- The refusals of Join shares, to a width of 16, and of Choose width are document 03's text. Assumes nothing.
+-- The refusals of Join shares, to a width of 16, and of Choose width, for value bytes of 1 to 16, are document 03's text.
+-- Assumes nothing.
 use mathlib.Core.Path.{_≡_, refl}
 use mathlib.Core.Bool.{true}
 use native.Mathlib.Omega.{arith}
@@ -15,5 +16,5 @@ same-call-refusals =
           let here : leb w 16 ≡ true = le-leb w 16 narrow in
           let wide : leb w 256 ≡ true = le-leb w 256 (omega arith) in
           rw (here, wide);
-      width = λ p n. refl;
+      width = λ p n w some narrow. rw (le-leb 1 w some, le-leb w 16 narrow);
     }

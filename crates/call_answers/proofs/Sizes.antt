@@ -1,21 +1,15 @@
--- How long a key and a deal can be, so that a caller's numbers fit. Assumes nothing.
+-- How long a deal and a table can be, so that a caller's numbers fit. Assumes nothing.
 use mathlib.Core.Path.{_≡_}
 use Prim.Native.Nat.{ℕ, _*_, _≤_}
 use native.Mathlib.Nat.{mul-le-mul}
-use native.Mathlib.Omega.{arith}
 use Rattle.grid.specs.Grid.{Board, board-refusal}
 use Rattle.grid.proofs.Facts.{board-in}
-use Rattle.keys.specs.Keys.{stride, key-long}
-use Rattle.key_header.proofs.Lengths.{header-most}
-use Rattle.key_lengths.proofs.Lengths.{rows-in, words-in}
+use Rattle.keys.specs.Keys.{key-long}
+use Rattle.key_lengths.proofs.Lengths.{key-most}
 
 module _ (b : Board) (accepted : board-refusal b ≡ 0) where
-  pub key-most : key-long b ≤ 263183
-  unfolding key-long stride
-  key-most = omega (arith, header-most b 0, rows-in b accepted, words-in b accepted)
-
   pub keys-most : b .p * key-long b ≤ 1579098
-  keys-most = mul-le-mul (board-in b accepted .players-most) key-most
+  keys-most = mul-le-mul (board-in b accepted .players-most) (key-most b accepted)
 
   pub keys-short : {long : ℕ} → long ≡ key-long b → b .p * long ≤ 1579098
   keys-short e = rw e keys-most

@@ -1,6 +1,6 @@
 -- What the operations answer and leave behind: document 03's Entry, word for word but for two names, `width-refusal`
 -- and `expand-refusal`, and for what document 02 asks: Deal's place, (i), Expand's start, (ii), Draw card with the
--- width of shares, (iii), and Write page, (iv). Each is an equation that fixes the number, the value and every lent
+-- width of shares, (iii), Write page, (iv), and Choose width, (vi). Each is an equation that fixes the number, the value and every lent
 -- byte, refused calls too. Join keys has its own file; Check key and Held seed answer as the crates key_header and keys
 -- say. Assumes nothing: these are definitions.
 use mathlib.Core.Path.{_≡_}
@@ -14,9 +14,10 @@ use Rattle.writer.specs.Written.{in-front}
 use Rattle.chacha20.specs.From.{expand-from}
 use Rattle.seed_rows.specs.Rows.{rule}
 use Rattle.grid.specs.Grid.{Board, board, board-refusal, players-fit, positions-fit, value-fits}
-use Rattle.grid.specs.Width.{width, sensor-position}
+use Rattle.grid.specs.Sensors.{sensor-position}
 use Rattle.keys.specs.Keys.{or-else, lent, deal-refusal, deal-place, keys-from, key-long, key-refusal}
 use Rattle.keys.specs.Keys.{head-in, opened, table}
+use Rattle.key_width.specs.Width.{width}
 use Rattle.cards.specs.Cards.{picked}
 use Rattle.page.specs.Page.{page, page-long}
 use Rattle.call_answers.specs.declared.Answer.{Answer}
@@ -116,12 +117,13 @@ expand-refusal l s o = cond (not (eqb l 32)) 7 (cond (ltb 4096 (s + o)) 16 0)
 unfoldable pub Expand-says : (seed : List ℕ) → (start : ℕ) → (r : ℕ) → (out out-now : List ℕ) → Type 0
 Expand-says bs s r o z = Put-says (expand-refusal (length bs) s (length o)) (expand-from s (length o) bs) r o z
 
--- CHOOSE WIDTH: 1, 2
-unfoldable pub width-refusal : (p n : ℕ) → ℕ
-width-refusal p n = cond (not (players-fit p)) 1 (cond (not (positions-fit n)) 2 0)
+-- CHOOSE WIDTH: "its order becomes 1, 2, 4"
+unfoldable pub width-refusal : (p n w : ℕ) → ℕ
+width-refusal p n w =
+    cond (not (players-fit p)) 1 (cond (not (positions-fit n)) 2 (cond (not (value-fits w)) 4 0))
 
-unfoldable pub Width-says : (p n : ℕ) → Answer → Type 0
-Width-says p n r = says (width-refusal p n) (width p n) r
+unfoldable pub Width-says : (p n w : ℕ) → Answer → Type 0
+Width-says p n w r = says (width-refusal p n w) (width p n w) r
 
 -- SENSOR POSITION: 17
 unfoldable pub Sensor-says : (s : ℕ) → Answer → Type 0

@@ -1,6 +1,6 @@
--- Document 03's own text: the refusals of Choose width, which here share the ranges of a board, and of Join shares,
--- which ends at a width of 16 there, and Expand, which has no start there. Assumes nothing: these are definitions and
--- one statement.
+-- Document 03's own text: the refusals of Choose width, which has no value bytes there, and of Join shares, which ends
+-- at a width of 16 there, and Expand, which has no start there. Assumes nothing: these are definitions and one
+-- statement.
 use mathlib.Core.Path.{_≡_}
 use mathlib.Core.Bool.{_&&_, not, cond}
 use mathlib.Core.List.{List}
@@ -23,7 +23,8 @@ unfoldable pub Expand-written : (seed : List ℕ) → (r : ℕ) → (out out-now
 Expand-written bs r o z =
     Put-says (cond (not (eqb (length bs) 32)) 7 (cond (ltb 4096 (length o)) 16 0)) (expand (length o) bs) r o z
 
--- THE REFUSALS ARE THESE, for every number, those of Join shares for every width to 16
+-- THE REFUSALS ARE THESE, for every number, those of Join shares for every width to 16 and those of Choose width for all
+-- value bytes of 1 to 16
 pub record Same-call-refusals : Type 0 where
   pub shares : (p w long room : ℕ) → w ≤ 16 → shares-written p w long room ≡ shares-refusal p w long room
-  pub width : (p n : ℕ) → width-written p n ≡ width-refusal p n
+  pub width : (p n w : ℕ) → 1 ≤ w → w ≤ 16 → width-written p n ≡ width-refusal p n w

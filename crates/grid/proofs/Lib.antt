@@ -17,4 +17,3 @@ pub mod Refusing
 pub mod Sensors
 pub mod Sizes
 pub mod Sums
-pub mod Widths

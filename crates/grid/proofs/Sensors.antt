@@ -6,7 +6,7 @@ use mathlib.Core.List.{List}
 use Prim.Native.Nat.{ℕ, _<_}
 use lib.Dec.{T, eqb, eqb→eq}
 use lib.ListN.{length, getD}
-use Rattle.grid.specs.Width.{sensor-position}
+use Rattle.grid.specs.Sensors.{sensor-position}
 use Rattle.xor.proofs.Table.{at, every}
 
 -- an entry is right that is its sensor's position

@@ -5,4 +5,4 @@ pub mod Grid
 pub mod Hiding
 pub mod Joining
 pub mod Moving
-pub mod Width
+pub mod Sensors

@@ -19,7 +19,7 @@ pub const MOST_WIDTH: u32 = 256;
 
 const MOST_VALUE_BYTES: u32 = 16;
 
-const MOST_GRID_ROWS: u32 = 256;
+pub const MOST_GRID_ROWS: u32 = 256;
 
 pub const ACCEPTED: u32 = 0;
 
@@ -80,7 +80,7 @@ pub fn value_bytes_fit(value_bytes: u32) -> bool
 }
 
 // Grid rows for so many positions: their number over the width, rounded up.
-fn grid_rows_for(positions: u32, width: u32) -> u32
+pub fn grid_rows_for(positions: u32, width: u32) -> u32
     requires { ⌜ (positions ≤ 65536) × (1 ≤ width) × (width ≤ 256) ⌝ }
     ensures { λ r. ⌜ r ≡ (positions + width - 1) / width ⌝ }
 {
@@ -88,7 +88,7 @@ fn grid_rows_for(positions: u32, width: u32) -> u32
 }
 
 // Columns of an array for so many players: two to the power of one player less.
-pub fn columns_for(players: u32) -> u32
+fn columns_for(players: u32) -> u32
     requires { ⌜ (2 ≤ players) × (players ≤ 6) ⌝ }
     ensures { λ r. ⌜ r ≡ 2 ^ (players - 1) ⌝ }
 {

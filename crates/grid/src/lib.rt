@@ -1,6 +1,5 @@
 // Boards as grids: the four numbers of a board with their refusals 1 to 5, the grid's sizes, what can be wrong with
-// arrays and where, the width that Choose width gives, and the places of the spring board's sensors.
+// arrays and where, and the places of the spring board's sensors.
 pub mod board;
 pub mod fault;
 pub mod sensor;
-pub mod width;

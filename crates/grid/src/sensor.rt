@@ -2,7 +2,7 @@
 // The rule of the table is proved once, over all its entries.
 ghost use mathlib.Core.Path.{_≡_};
 ghost use Prim.Native.Nat.{_<_};
-ghost use Rattle.grid.specs.Width.{sensor-position};
+ghost use Rattle.grid.specs.Sensors.{sensor-position};
 
 pub const SENSORS: u32 = 72;
 

@@ -9,6 +9,7 @@ use Rattle.grid.proofs.Facts.{board-in, columns-pos, columns-most}
 use Rattle.grid.proofs.Sizes.{row-most}
 use Rattle.keys.specs.Keys.{header, mark-bytes, stride, body-long, key-long}
 use Rattle.keys.proofs.Numbers.{header-long}
+use Rattle.key_header.proofs.Lengths.{header-most}
 
 -- a product of two results, where the numbers that they are have it
 pub product-in : {a b x y most : ℕ} → a ≡ x → b ≡ y → x * y ≤ most → a * b ≤ most
@@ -43,3 +44,7 @@ module _ (b : Board) (accepted : board-refusal b ≡ 0) where
 
   pub words-in : columns b * row-long b ≤ 131072
   words-in = mul-le-mul (columns-in .1) (row-most b (board-in b accepted))
+
+  pub key-most : key-long b ≤ 263183
+  unfolding key-long stride
+  key-most = omega (arith, header-most b 0, rows-in, words-in)

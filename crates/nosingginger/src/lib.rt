@@ -18,6 +18,7 @@ use call_answers::refusals::REFUSED_LENT;
 use call_answers::refusals::REFUSED_PLAYERS;
 use call_answers::refusals::REFUSED_POSITIONS;
 use call_answers::refusals::REFUSED_SENSOR;
+use call_answers::refusals::REFUSED_VALUE_BYTES;
 use call_answers::refused;
 pub use deal_call::deal;
 pub use draw_call::draw_card;
@@ -25,6 +26,7 @@ use grid::board::Board;
 use grid::board::SEED_BYTES;
 use grid::board::players_fit;
 use grid::board::positions_fit;
+use grid::board::value_bytes_fit;
 use grid::sensor::SENSORS;
 pub use join_keys_call::join_keys;
 pub use join_shares_call::join_shares;
@@ -58,9 +60,9 @@ pub fn key_length(players: u32, positions: u32, width: u32, value_bytes: u32) ->
     accepted(length)
 }
 
-// CHOOSE WIDTH: 1, 2; the least width whose square is at least positions times columns, or 256.
-pub fn choose_width(players: u32, positions: u32) -> Answer
-    ensures { λ r. ⌜ Width-says players positions r ⌝ }
+// CHOOSE WIDTH: 1, 2, 4; the width that makes the shortest key, and of two that tie the smaller.
+pub fn choose_width(players: u32, positions: u32, value_bytes: u32) -> Answer
+    ensures { λ r. ⌜ Width-says players positions «value_bytes» r ⌝ }
 {
     if !players_fit(players) {
         return refused(REFUSED_PLAYERS);
@@ -68,7 +70,10 @@ pub fn choose_width(players: u32, positions: u32) -> Answer
     if !positions_fit(positions) {
         return refused(REFUSED_POSITIONS);
     }
-    accepted(grid::width::choose_width(players, positions))
+    if !value_bytes_fit(value_bytes) {
+        return refused(REFUSED_VALUE_BYTES);
+    }
+    accepted(key_width::shortest_width(players, positions, value_bytes))
 }
 
 // SENSOR POSITION: 17; the position of a sensor of the spring board.

@@ -6,10 +6,18 @@ use crate::value::put_value;
 
 // CHOOSE WIDTH.
 #[no_mangle]
-pub extern "C" fn nsg_choose_width(players: u32, positions: u32, width: &mut u32) -> u32
-    ensures { λ r. ⌜ Through (λ a. Width-says players positions a) r (now (width .entry)) (now (width .exit)) ⌝ }
+pub extern "C" fn nsg_choose_width(
+    players: u32,
+    positions: u32,
+    value_bytes: u32,
+    width: &mut u32,
+) -> u32
+    ensures { λ r. ⌜ Through (λ a. Width-says players positions «value_bytes» a) r (now (width .entry)) (now (width .exit)) ⌝ }
 {
-    put_value(nosingginger::choose_width(players, positions), width)
+    put_value(
+        nosingginger::choose_width(players, positions, value_bytes),
+        width,
+    )
 }
 
 // KEY LENGTH: the bytes of each player's key.

@@ -1,10 +1,6 @@
--- CHOOSE WIDTH of specs/ChooseWidth.antt, kept: the terms are those of the crate grid. Assumes nothing.
-use Rattle.grid.proofs.Widths.{width-is-least, width-serves}
+-- CHOOSE WIDTH of specs/ChooseWidth.antt, kept: the term is that of the crate key_width. Assumes nothing.
+use Rattle.key_width.proofs.Shortest.{width-is-shortest}
 use Rattle.promises.specs.ChooseWidth.{Choose-width}
 
 pub choose-width : Choose-width
-choose-width =
-    record {
-      width-is-least = width-is-least;
-      width-serves = width-serves;
-    }
+choose-width = record { width-is-shortest = width-is-shortest }

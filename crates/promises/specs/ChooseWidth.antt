@@ -1,7 +1,7 @@
--- CHOOSE WIDTH, beside its contract. proofs/ChooseWidth.antt has the term. Quotations are document 01's. Assumes nothing.
-unfoldable pub use Rattle.grid.specs.Width.{Width-is-least, Width-serves}
+-- CHOOSE WIDTH, beside its contract. proofs/ChooseWidth.antt has the term. Quotations are document 02's, (vi). Assumes
+-- nothing.
+unfoldable pub use Rattle.key_width.specs.Width.{Width-is-shortest}
 
 pub record Choose-width : Type 0 where
-  -- "the least μ with μ × μ ≥ N × J, or 256", and no board is refused at it
-  pub width-is-least : Width-is-least
-  pub width-serves : Width-serves
+  -- "the μ, among those with at most 256 grid rows, whose K is least, the smaller μ when two tie"; no board is refused at it
+  pub width-is-shortest : Width-is-shortest

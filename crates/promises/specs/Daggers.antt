@@ -1,14 +1,16 @@
--- The lines that bear a dagger: every line of document 01, "Marked deals", that bears a †, as one line of one table, "what is computed" beside "what the
--- paper says", both as numbers; the theorem, proofs/Daggers.antt, is that one computed test holds of the whole table. Assumes nothing:
--- these are definitions and one statement.
+-- The lines that bear a dagger: every line of document 01, "Marked deals", that bears a †, as one line of one table,
+-- "what is computed" beside "what the paper says", both as numbers. Of Choose width the paper is document 02, (vi):
+-- "with w 1 the † widths become 32, 36 and 256", and "36 with 551 bytes, where 24 gave 584". The theorem,
+-- proofs/Daggers.antt, is that one computed test holds of the whole table. Assumes nothing: these are definitions and one
+-- statement.
 use mathlib.Core.Path.{_≡_}
 use mathlib.Core.Bool.{Bool, true, false, _&&_, cond}
 use mathlib.Core.List.{List, [], _∷_, _++_}
 use Prim.Native.Nat.{ℕ}
 use lib.Dec.{eqb}
 use Rattle.grid.specs.Grid.{Board, board, board-refusal, Dealing, array-good, dealing-good, last-word, share}
-use Rattle.grid.specs.Width.{width}
 use Rattle.keys.specs.Keys.{key-long, mark-bytes, packed}
+use Rattle.key_width.specs.Width.{width}
 use Rattle.call_answers.specs.Answers.{width-refusal}
 
 -- THE TEST
@@ -71,8 +73,8 @@ unfoldable pub shares : (player : ℕ) → List ℕ
 shares i = share two drawn i 0 ++ share two drawn i 1
 
 -- what Choose width and Key length answer: the number that refuses, or 0, and the value
-unfoldable pub width-answer : (p n : ℕ) → List ℕ
-width-answer p n = width-refusal p n ∷ width p n ∷ []
+unfoldable pub width-answer : (p n w : ℕ) → List ℕ
+width-answer p n w = width-refusal p n w ∷ width p n w ∷ []
 
 unfoldable pub length-answer : Board → List ℕ
 length-answer b = board-refusal b ∷ key-long b ∷ []
@@ -93,10 +95,11 @@ table =
     ∷ record { computed = last-word two drawn; written = 0x23 ∷ 0xC1 ∷ [] }
     ∷ record { computed = shares 0; written = 0x10 ∷ 0x20 ∷ [] }
     ∷ record { computed = shares 1; written = 0x10 ∷ 0x85 ∷ [] }
-    ∷ record { computed = width-answer 2 64; written = 0 ∷ 12 ∷ [] }
-    ∷ record { computed = width-answer 4 72; written = 0 ∷ 24 ∷ [] }
-    ∷ record { computed = width-answer 6 65536; written = 0 ∷ 256 ∷ [] }
-    ∷ record { computed = length-answer (board 4 72 24 1); written = 0 ∷ 584 ∷ [] } ∷ []
+    ∷ record { computed = width-answer 2 64 1; written = 0 ∷ 32 ∷ [] }
+    ∷ record { computed = width-answer 4 72 1; written = 0 ∷ 36 ∷ [] }
+    ∷ record { computed = width-answer 6 65536 1; written = 0 ∷ 256 ∷ [] }
+    ∷ record { computed = length-answer (board 4 72 24 1); written = 0 ∷ 584 ∷ [] }
+    ∷ record { computed = length-answer (board 4 72 36 1); written = 0 ∷ 551 ∷ [] } ∷ []
 
 -- THE MARKED DEALS: every line of the table holds
 unfoldable pub Dagger-lines : Type 0

@@ -143,7 +143,11 @@ fn expand(head: &[u8], inputs: &[u8], lent: &mut [u8]) -> Answered {
 }
 
 fn choose_width(head: &[u8]) -> Answered {
-    answer(nosingginger::choose_width(number_at(head, NUMBER_1), number_at(head, NUMBER_2)))
+    answer(nosingginger::choose_width(
+        number_at(head, NUMBER_1),
+        number_at(head, NUMBER_2),
+        number_at(head, NUMBER_3),
+    ))
 }
 
 fn sensor_position(head: &[u8]) -> Answered {

@@ -29,7 +29,9 @@ pub fn add(maker: &mut Maker, place: usize, board: Board) {
     };
     let numbers = deal_numbers(&drawn);
     maker.add(0, numbers_call(KEY_LENGTH, &numbers[..4]));
-    maker.add(0, numbers_call(CHOOSE_WIDTH, &numbers[..2]));
+    let [players, positions, _, value_width, _] = numbers;
+    let numbers = [players, positions, value_width];
+    maker.add(0, numbers_call(CHOOSE_WIDTH, &numbers));
     // Every other output is longer than it needs to be.
     let spare = place % 2 * 5;
     let dealt = board.players * key_bytes(&board);

@@ -12,6 +12,7 @@ mod pages;
 mod plain;
 pub mod programs;
 mod starts;
+mod widths;
 
 use crate::board::Board;
 use crate::data::{start_numbers, Answer, Call, Case, DRAW_CARD, EXPAND};
@@ -79,6 +80,7 @@ pub fn all() -> Vec<Case> {
     cells::add(&mut maker);
     cards::add(&mut maker);
     pages::add(&mut maker);
+    widths::add(&mut maker);
     maker.cases
 }
 

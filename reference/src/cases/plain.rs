@@ -58,34 +58,36 @@ fn key_lengths(maker: &mut Maker) {
     }
 }
 
+/// The marked widths and three ties, in which the smaller of two is given; `widths` has more.
 fn widths(maker: &mut Maker) {
     let cases = [
-        (0, [2, 64]),
-        (0, [4, 72]),
-        (0, [6, 65_536]),
-        (0, [2, 1]),
-        (0, [3, 1]),
-        (0, [6, 1]),
-        (0, [6, 2_048]),
-        (0, [6, 2_049]),
-        (0, [2, 32_768]),
-        (0, [2, 32_769]),
-        (0, [3, 16]),
-        (0, [3, 17]),
-        (1, [1, 72]),
-        (1, [7, 0]),
-        (1, [u32::MAX, u32::MAX]),
-        (2, [2, 0]),
-        (2, [6, 65_537]),
-        (2, [3, u32::MAX]),
+        (0, [2, 64, 1]),
+        (0, [4, 72, 1]),
+        (0, [6, 65_536, 1]),
+        (0, [4, 892, 1]),
+        (0, [2, 36, 11]),
+        (0, [3, 400, 13]),
+        (0, [4, 72, 5]),
+        (0, [4, 72, 16]),
+        (0, [3, 16, 1]),
+        (0, [3, 17, 16]),
+        (0, [2, 32_768, 1]),
+        (0, [2, 32_769, 1]),
+        (1, [1, 72, 1]),
+        (1, [7, 0, 0]),
+        (1, [u32::MAX, u32::MAX, u32::MAX]),
+        (2, [2, 0, 1]),
+        (2, [6, 65_537, 17]),
+        (4, [3, 72, 17]),
     ];
     for (refusal, numbers) in cases {
         maker.add(refusal, numbers_call(CHOOSE_WIDTH, &numbers));
     }
     for players in 2..=6 {
-        for most in [100, 3_000, 65_536] {
+        for (most, value_width) in [(100, 1), (3_000, 5), (65_536, 16)] {
             let positions = 1 + maker.generator.below(most) as u32;
-            maker.add(0, numbers_call(CHOOSE_WIDTH, &[players, positions]));
+            let numbers = [players, positions, value_width];
+            maker.add(0, numbers_call(CHOOSE_WIDTH, &numbers));
         }
     }
 }

@@ -21,13 +21,13 @@ pub const LIST: &str = "cases";
 const START: u64 = 0x5072_6F67_7261_6D73;
 
 /// The boards (p, N, μ, w) of the accepted cases, each with the piece's position: every p; the
-/// spring board; the largest table, with the piece on its last square; four keys of 65,536
+/// spring board at the width that Choose width gives; the largest table, with the piece on its last square; four keys of 65,536
 /// bytes together.
 const BOARDS: [(&str, Numbers, usize); 6] = [
-    ("spring", (4, 72, 24, 1), 41),
+    ("spring", (4, 72, 36, 1), 41),
     ("three", (3, 7, 3, 16), 5),
     ("five", (5, 3, 2, 2), 0),
-    ("six", (6, 72, 48, 1), 17),
+    ("six", (6, 72, 36, 1), 17),
     ("largest", (2, 65_536, 256, 1), 65_535),
     ("limit", (4, 606, 5, 16), 300),
 ];

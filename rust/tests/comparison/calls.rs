@@ -407,13 +407,16 @@ impl Comparison {
         self.tally.stretch(start, length as u64, number);
     }
 
-    pub fn choose_width(&mut self, players: u32, positions: u32) {
-        let right = reference::width::choose_width(players, positions);
-        let given = nosingginger::choose_width(players, positions);
-        let asked = Asked { operation: Operation::ChooseWidth, numbers: &[players, positions], inputs: &[] };
+    pub fn choose_width(&mut self, players: u32, positions: u32, value_bytes: u32) {
+        let right = reference::width::choose_width(players, positions, value_bytes);
+        let given = nosingginger::choose_width(players, positions, value_bytes);
+        let asked = Asked { operation: Operation::ChooseWidth, numbers: &[players, positions, value_bytes], inputs: &[] };
         self.answer(&asked, right.map(|width| [width]), given.map(|width| [width]), |[width]| unsafe {
-            raw::nsg_choose_width(players, positions, width)
+            raw::nsg_choose_width(players, positions, value_bytes, width)
         });
+        if let Ok(width) = right {
+            self.tally.width([players, positions, value_bytes], width);
+        }
     }
 
     pub fn sensor_position(&mut self, sensor: u32) {

@@ -153,7 +153,7 @@ impl Comparison {
         let [players, positions, grid_width, value_width] =
             [board.players, board.positions, board.grid_width, board.value_width].map(|number| number as u32);
         self.key_length([players, positions, grid_width, value_width]);
-        self.choose_width(players, positions);
+        self.choose_width(players, positions, value_width);
         let dealt = board.players * key_bytes(&board);
         self.deal(&hand(&round.drawn), dealt);
         self.deal(&hand(&round.drawn), dealt - 1);
@@ -334,15 +334,13 @@ impl Comparison {
         self.expand(&seed, start, length);
     }
 
-    /// Positions at random, and about the squares where the width steps.
+    /// Few positions as often as many, of which the widest grid is often the best.
     fn drawn_choose_width(&mut self) {
         let players = self.generator.near(FEWEST_PLAYERS, MOST_PLAYERS);
-        let mut positions = self.generator.near(1, MOST_POSITIONS);
-        if (FEWEST_PLAYERS..=MOST_PLAYERS).contains(&players) && self.generator.one_in(2) {
-            let width = self.generator.within(1, 260);
-            positions = width * width / (1 << (players - 1)) + self.generator.within(0, 1);
-        }
-        self.choose_width(players, positions);
+        let most_positions = self.generator.pick(&[100, 1_000, 10_000, MOST_POSITIONS]);
+        let positions = self.generator.near(1, most_positions);
+        let value_bytes = self.generator.near(1, MOST_VALUE_WIDTH);
+        self.choose_width(players, positions, value_bytes);
     }
 }
 

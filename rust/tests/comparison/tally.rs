@@ -36,12 +36,12 @@ const OPERATIONS: [(Operation, &str, &[usize]); 13] = [
     (Operation::WritePage, "write page", &[2, 4, 7, 9]),
     (Operation::HeldSeed, "held seed", &[]),
     (Operation::Expand, "expand", &[7, 16]),
-    (Operation::ChooseWidth, "choose width", &[1, 2]),
+    (Operation::ChooseWidth, "choose width", &[1, 2, 4]),
     (Operation::SensorPosition, "sensor position", &[17]),
 ];
 
 /// Limits that calls must have met, those of boards in accepted dealings.
-const LIMITS: [&str; 47] = [
+const LIMITS: [&str; 50] = [
     "2 players",
     "3 players",
     "4 players",
@@ -89,6 +89,9 @@ const LIMITS: [&str; 47] = [
     "table one byte short",
     "table one byte long",
     "table of all entries' bytes modulo 2^32",
+    "chosen width 1",
+    "chosen width 256",
+    "chosen width that ties with a larger one",
 ];
 
 /// Accepted, and every refusal. 8 is given no more.
@@ -270,6 +273,16 @@ impl Tally {
         self.limit("table one byte short", number == 7 && table + 1 == all);
         self.limit("table one byte long", number == 7 && table == all + 1);
         self.limit("table of all entries' bytes modulo 2^32", [2, 4].contains(&number) && table + (1 << 32) == all);
+    }
+
+    /// The width that was chosen for p, N and w.
+    pub fn width(&mut self, [players, positions, value_bytes]: [u32; 3], width: u32) {
+        let board = |width| Board::new(players, positions, width, value_bytes);
+        let key_bytes = |width| board(width).map(|board| reference::key::key_bytes(&board));
+        let ties = (width + 1..=MOST_GRID_WIDTH).any(|larger| key_bytes(larger) == key_bytes(width));
+        self.limit("chosen width 1", width == 1);
+        self.limit("chosen width 256", width == MOST_GRID_WIDTH);
+        self.limit("chosen width that ties with a larger one", ties);
     }
 
     pub fn input(&mut self, length: usize) {

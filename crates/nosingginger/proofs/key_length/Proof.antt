@@ -3,7 +3,7 @@ use mathlib.Core.Path.{sym, _∙_}
 use native.Mathlib.Omega.{arith}
 use Rattle.call_answers.specs.Answers.{Long-says}
 use Rattle.call_answers.proofs.Answering.{says-refused, says-value}
-use Rattle.call_answers.proofs.Sizes.{key-most}
+use Rattle.key_lengths.proofs.Lengths.{key-most}
 use borrow.Author.Needs.{needs}
 use Rattle.nosingginger.proofs.key_length.Statement.{statement}
 use Rattle.nosingginger.proofs.key_length.Tie as tie

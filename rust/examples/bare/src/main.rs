@@ -9,7 +9,7 @@
 
 use core::ffi::{c_int, c_uint, c_void};
 use core::panic::PanicInfo;
-use nosingginger::{deal, join_keys, join_shares, open_one, write_page, Board, Dealing, Refusal};
+use nosingginger::{choose_width, deal, join_keys, join_shares, open_one, write_page, Board, Dealing, Refusal};
 
 #[link(name = "c")]
 extern "C" {
@@ -22,12 +22,12 @@ fn panicked(_: &PanicInfo<'_>) -> ! {
     unsafe { abort() }
 }
 
-/// The spring board for two players. Its sizes are known when the program is built; the library is asked whether they are right.
-const BOARD: Board = Board { players: 2, positions: 72, width: 12, value_bytes: 1 };
-const ARRAYS: usize = 12;
-const SEEDS: usize = 384;
-const WORDS: usize = 12;
-const KEY: usize = 227;
+/// The spring board for two players. Its width and sizes are known when the program is built; the library is asked whether they are right.
+const BOARD: Board = Board { players: 2, positions: 72, width: 36, value_bytes: 1 };
+const ARRAYS: usize = 4;
+const SEEDS: usize = 128;
+const WORDS: usize = 36;
+const KEY: usize = 143;
 const KEYS: usize = 2 * KEY;
 const TABLE: usize = 72;
 const LINE: usize = 30;
@@ -70,10 +70,12 @@ fn dealt() -> Result<[u8; KEYS], Refusal> {
     Ok(keys)
 }
 
-/// The sizes are what the library says of the board.
+/// The width is the one that makes keys shortest, and the sizes are what the library says of the board.
 fn sizes_fit() -> Result<bool, Refusal> {
+    let width = choose_width(BOARD.players, BOARD.positions, BOARD.value_bytes)?;
     let parts = [BOARD.arrays_len()?, BOARD.seeds_len()?, BOARD.words_len()?, BOARD.key_len()?, BOARD.keys_len()?];
-    Ok(parts == [ARRAYS, SEEDS, WORDS, KEY, KEYS] && [BOARD.table_len()?, BOARD.page_len()?] == [TABLE, PAGE])
+    let shown = [BOARD.table_len()?, BOARD.page_len()?];
+    Ok(width == BOARD.width && parts == [ARRAYS, SEEDS, WORDS, KEY, KEYS] && shown == [TABLE, PAGE])
 }
 
 /// Whether the table's page has the piece's digits on its square and zeros on every other, each found by its line and

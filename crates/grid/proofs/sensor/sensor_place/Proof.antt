@@ -2,7 +2,7 @@
 -- Assumes nothing.
 use Prim.Native.Nat.{_<_}
 use borrow.Author.Needs.{needs}
-use Rattle.grid.specs.Width.{sensor-position}
+use Rattle.grid.specs.Sensors.{sensor-position}
 use Rattle.grid.proofs.Sensors.{table-right}
 use Rattle.grid.proofs.sensor.sensor_place.Statement.{statement}
 use Rattle.grid.proofs.sensor.sensor_place.Tie as tie
