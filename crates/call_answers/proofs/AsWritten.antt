@@ -1,6 +1,6 @@
 -- The refusals of Join shares, to a width of 16, and of Choose width, for value bytes of 1 to 16, are document 03's text.
 -- Assumes nothing.
-use mathlib.Core.Path.{_≡_, refl}
+use mathlib.Core.Path.{_≡_}
 use mathlib.Core.Bool.{true}
 use native.Mathlib.Omega.{arith}
 use borrow.Author.Tests.{le-leb}

@@ -1,8 +1,8 @@
 -- What the operations answer and leave behind: document 03's Entry, word for word but for two names, `width-refusal`
 -- and `expand-refusal`, and for what document 02 asks: Deal's place, (i), Expand's start, (ii), Draw card with the
--- width of shares, (iii), Write page, (iv), and Choose width, (vi). Each is an equation that fixes the number, the value and every lent
--- byte, refused calls too. Join keys has its own file; Check key and Held seed answer as the crates key_header and keys
--- say. Assumes nothing: these are definitions.
+-- width of shares, (iii), Write page, (iv), and Choose width, (vi). Each is an equation that fixes the number, the
+-- value and every lent byte, refused calls too. Join keys has its own file; Check key and Held seed answer as the
+-- crates key_header and keys say. Assumes nothing: these are definitions.
 use mathlib.Core.Path.{_≡_}
 use mathlib.Core.Bool.{Bool, _&&_, not, cond}
 use mathlib.Core.List.{List, [], _∷_}

@@ -23,7 +23,7 @@ unfoldable pub Expand-written : (seed : List ℕ) → (r : ℕ) → (out out-now
 Expand-written bs r o z =
     Put-says (cond (not (eqb (length bs) 32)) 7 (cond (ltb 4096 (length o)) 16 0)) (expand (length o) bs) r o z
 
--- THE REFUSALS ARE THESE, for every number, those of Join shares for every width to 16 and those of Choose width for all
+-- THE REFUSALS ARE THESE, for every number, those of Join shares for every width to 16 and those of Choose width for
 -- value bytes of 1 to 16
 pub record Same-call-refusals : Type 0 where
   pub shares : (p w long room : ℕ) → w ≤ 16 → shares-written p w long room ≡ shares-refusal p w long room

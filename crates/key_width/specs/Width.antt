@@ -1,6 +1,6 @@
--- The grid width that Choose width gives: document 02, (vi), whose words are quoted, and what is promised of that width.
--- Keys are as long as Key length says, the header with them. Assumes nothing: these are definitions and one statement,
--- whose term is in proofs/Shortest.antt.
+-- The grid width that Choose width gives: document 02, (vi), whose words are quoted, and what is promised of it. Keys
+-- are as long as Key length says, the header with them. Assumes nothing: these are definitions and one statement, whose
+-- term is in proofs/Shortest.antt.
 use mathlib.Core.Path.{_≡_}
 use mathlib.Core.Bool.{Bool, _&&_, _||_, cond}
 use Prim.Native.Nat.{ℕ, zero, suc, _≤_, _<_}

@@ -3,5 +3,6 @@
 unfoldable pub use Rattle.key_width.specs.Width.{Width-is-shortest}
 
 pub record Choose-width : Type 0 where
-  -- "the μ, among those with at most 256 grid rows, whose K is least, the smaller μ when two tie"; no board is refused at it
+  -- "the μ, among those with at most 256 grid rows, whose K is least, the smaller μ when two tie", and no board is
+  -- refused at it
   pub width-is-shortest : Width-is-shortest
