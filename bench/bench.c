@@ -429,6 +429,13 @@ static void compare_widths(void)
             }
 }
 
+static void expect_width(uint32_t players, uint32_t positions, uint32_t value_bytes, uint32_t expected)
+{
+    uint32_t width;
+    if (nsg_choose_width(players, positions, value_bytes, &width) != NSG_ACCEPTED || width != expected)
+        fail("choose width", "ours", "not the board's");
+}
+
 /* ---- races: tasks that take turns */
 
 struct timing {
@@ -663,6 +670,8 @@ static void prepare(void)
                                                   .expand = i < CONTENDERS ? contenders[i].expand : bearssl_expand,
                                                   .length = expansions[k].length});
     for (int k = 0; k < BOARDS; k++) {
+        if (boards[k].positions == NSG_SENSORS)
+            expect_width(boards[k].players, boards[k].positions, boards[k].value_bytes, boards[k].width);
         matches[k] = drawn_match(boards[k].players, boards[k].positions, boards[k].width, boards[k].value_bytes);
         for (uint32_t i = 0; i < SQUARES; i++)
             matches[k].squares[i] = (boards[k].first + i * boards[k].step) % boards[k].positions;

@@ -1,6 +1,6 @@
 /* What bench.c times side by side: the library, and two peers that have the library's calls. A slice is a pointer and a length; 0 is
    accepted. The peers are scheme.c over plain.c's ChaCha20, and scheme.c over libsodium's. Write page and Choose width
-   need no cipher: the one peer of each is page.c, and width.c. */
+   need no cipher: their peers are page.c and width.c. */
 #include "../include/nosingginger.h"
 #include <stddef.h>
 

@@ -37,7 +37,7 @@ const ANSWERS: [(u8, &[u32]); 15] = [
 ];
 
 /// The file's fingerprint, fixed so that every machine makes the same bytes.
-const FINGERPRINT: u64 = 0x23BA_753F_7757_B605;
+const FINGERPRINT: u64 = 0xEF80_5F96_91EB_8B45;
 
 /// FNV-1a on 64 bits.
 fn fingerprint(bytes: &[u8]) -> u64 {
@@ -51,8 +51,8 @@ fn the_data_is_enough_and_the_same_each_time() {
     let cases = all();
     let file = write_file(&cases);
     assert_eq!(write_file(&all()), file);
-    assert_eq!(cases.len(), 5_289);
-    assert_eq!(file.len(), 2_528_484);
+    assert_eq!(cases.len(), 5_344);
+    assert_eq!(file.len(), 2_549_143);
     assert_eq!(fingerprint(&file), FINGERPRINT);
     // Every answer that an operation can give, and no other.
     let mut met: BTreeMap<u8, BTreeSet<u32>> = BTreeMap::new();

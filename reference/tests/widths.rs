@@ -89,17 +89,25 @@ fn is_the_first_shortest(numbers: Numbers, chosen: u32) -> bool {
             .all(|width| length(numbers, width) > shortest)
 }
 
+fn check([players, positions, value_width]: Numbers) {
+    let numbers = [players, positions, value_width];
+    let chosen = choose_width(players, positions, value_width).unwrap();
+    assert!(is_the_first_shortest(numbers, chosen), "{numbers:?}");
+}
+
 #[test]
 fn every_width_is_the_first_of_the_shortest_key() {
     for players in 2..=6 {
         for value_width in 1..=16 {
-            for positions in every_positions() {
-                let numbers = [players, positions, value_width];
-                let chosen = choose_width(players, positions, value_width).unwrap();
-                assert!(is_the_first_shortest(numbers, chosen), "{numbers:?}");
-            }
+            every_positions().for_each(|positions| check([players, positions, value_width]));
         }
     }
+}
+
+/// Every N that there is, with four players and values of one byte.
+#[test]
+fn every_width_of_four_players_is_the_first_of_the_shortest_key() {
+    (1..=65_536).for_each(|positions| check([4, positions, 1]));
 }
 
 /// All widths that have the shortest key, whose length is given: the smallest is chosen.

@@ -11,6 +11,7 @@ use borrow.Author.Tests.{leb-true, leb-false, le-leb, lt-leb, ltb-true, ltb-fals
 use Rattle.xor.proofs.Laws.{and-left, and-right}
 use Rattle.grid.specs.Grid.{board, board-refusal, grid-rows}
 use Rattle.grid.proofs.Facts.{board-in, board-accepted}
+use Rattle.grid.proofs.Refusing.{in-range}
 use Rattle.key_lengths.proofs.Lengths.{key-most}
 use Rattle.key_width.specs.Width.{long-at, better, shortest, width, In-range, Shortest-width, Width-is-shortest}
 
@@ -41,16 +42,19 @@ module _ (p n w : ℕ) where
   accepted-is : (m : ℕ) → In-range p n w → Accepted m → board-refusal (board p n m w) ≡ 0
   unfolding board
   accepted-is m range good =
+      let players = in-range 2 p 6 (range .players) in
+      let positions = in-range 1 n 65536 (range .positions) in
+      let value = in-range 1 w 16 (range .value) in
       board-accepted (board p n m w)
       (record {
-        players-least = range .players-least;
-        players-most = range .players-most;
-        positions-least = range .positions-least;
-        positions-most = range .positions-most;
+        players-least = players .0;
+        players-most = players .1;
+        positions-least = positions .0;
+        positions-most = positions .1;
         wide-least = good .least;
         wide-most = good .most;
-        value-least = range .value-least;
-        value-most = range .value-most;
+        value-least = value .0;
+        value-most = value .1;
         rows-most = good .rows;
       })
 
@@ -219,7 +223,7 @@ module _ (p n w : ℕ) where
   unfolding width
   shortest-width range =
       let b = best-to 256 in
-      let some = b .none-shorter 256 (omega arith) (widest (range .positions-most)) .0 in
+      let some = b .none-shorter 256 (omega arith) (widest (in-range 1 n 65536 (range .positions) .1)) .0 in
       record {
         accepted =
             accepted-is (width p n w) range (record { least = some; most = b .fits some .0; rows = b .fits some .1 });

@@ -2,10 +2,10 @@
 -- are as long as Key length says, the header with them. Assumes nothing: these are definitions and one statement, whose
 -- term is in proofs/Shortest.antt.
 use mathlib.Core.Path.{_≡_}
-use mathlib.Core.Bool.{Bool, _&&_, _||_, cond}
+use mathlib.Core.Bool.{Bool, true, _&&_, _||_, cond}
 use Prim.Native.Nat.{ℕ, zero, suc, _≤_, _<_}
 use lib.Dec.{ltb, leb, eqb}
-use Rattle.grid.specs.Grid.{board, board-refusal, grid-rows}
+use Rattle.grid.specs.Grid.{players-fit, positions-fit, value-fits, board, board-refusal, grid-rows}
 use Rattle.keys.specs.Keys.{key-long}
 
 -- K on a grid of width m
@@ -27,14 +27,11 @@ shortest p n w (suc m) = cond (better p n w (shortest p n w m) (suc m)) (suc m) 
 unfoldable pub width : (p n w : ℕ) → ℕ
 width p n w = shortest p n w 256
 
--- what Choose width accepts: "p players, 2 to 6", "N positions, 1 to 65,536", "Value width w bytes, 1 to 16"
+-- what Choose width accepts
 pub record In-range (p n w : ℕ) : Type 0 where
-  pub players-least : 2 ≤ p
-  pub players-most : p ≤ 6
-  pub positions-least : 1 ≤ n
-  pub positions-most : n ≤ 65536
-  pub value-least : 1 ≤ w
-  pub value-most : w ≤ 16
+  pub players : players-fit p ≡ true
+  pub positions : positions-fit n ≡ true
+  pub value : value-fits w ≡ true
 
 -- a width as that sentence says it: the board accepts it, no width that the board accepts has a shorter key, and every
 -- smaller one that it accepts has a longer one
@@ -43,7 +40,7 @@ pub record Shortest-width (p n w m : ℕ) : Type 0 where
   pub none-shorter : (k : ℕ) → board-refusal (board p n k w) ≡ 0 → long-at p n w m ≤ long-at p n w k
   pub smaller-longer : (k : ℕ) → k < m → board-refusal (board p n k w) ≡ 0 → long-at p n w m < long-at p n w k
 
--- THE WIDTH MAKES THE SHORTEST KEY, and no other width is so: the sentence names just one
+-- THE WIDTH MAKES THE SHORTEST KEY, and it is the only such width: the sentence names just one
 unfoldable pub Width-is-shortest : Type 0
 Width-is-shortest =
     (p n w : ℕ) → In-range p n w →

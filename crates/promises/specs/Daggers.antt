@@ -1,6 +1,6 @@
 -- The lines that bear a dagger: every line of document 01, "Marked deals", that bears a †, as one line of one table,
--- "what is computed" beside "what the paper says", both as numbers. Of Choose width the paper is document 02, (vi):
--- "with w 1 the † widths become 32, 36 and 256", and "36 with 551 bytes, where 24 gave 584". The theorem, in
+-- "what is computed" beside "what the paper says", both as numbers. The widths are those of document 02, (vi): "with w 1
+-- the † widths become 32, 36 and 256"; with them stands its "36 with 551 bytes, where 24 gave 584". The theorem, in
 -- proofs/Daggers.antt, is that one computed test holds of the whole table. Assumes nothing: these are definitions and
 -- one statement.
 use mathlib.Core.Path.{_≡_}

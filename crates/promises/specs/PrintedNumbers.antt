@@ -1,4 +1,4 @@
--- THE NUMBERS THAT DOCUMENT 01 PRINTS. proofs/PrintedNumbers.antt has the term. Assumes nothing.
+-- THE NUMBERS THAT DOCUMENTS 01 AND 02 PRINT. proofs/PrintedNumbers.antt has the term. Assumes nothing.
 unfoldable pub use Rattle.promises.specs.Daggers.{Dagger-lines}
 
 pub record Printed-numbers : Type 0 where

@@ -34,7 +34,7 @@ pub record Promises : Type 0 where
   pub card-draw : Card-draw
   -- what a reader finds on a page
   pub board-page : Board-page
-  -- what the width that Choose width gives is the best of
+  -- that the width of Choose width makes the shortest key
   pub choose-width : Choose-width
   pub printed-numbers : Printed-numbers
   -- document 03's own statements

@@ -57,6 +57,9 @@ pub const DAMAGED_BOARDS: [(u32, u32, u32, u32); 6] = [
     (6, 2, 2, 1),
 ];
 
+/// The spring board at the width that Choose width gives.
+const SPRING: (u32, u32, u32, u32) = (4, 72, 36, 1);
+
 /// The generator's start, fixed for good: the data is the same each time.
 const START: u64 = 0x4E6F_7369_6E67_6731;
 
@@ -81,6 +84,7 @@ pub fn all() -> Vec<Case> {
     cards::add(&mut maker);
     pages::add(&mut maker);
     widths::add(&mut maker);
+    accepted::add(&mut maker, BOARDS.len(), board(SPRING));
     maker.cases
 }
 

@@ -21,8 +21,8 @@ pub const LIST: &str = "cases";
 const START: u64 = 0x5072_6F67_7261_6D73;
 
 /// The boards (p, N, μ, w) of the accepted cases, each with the piece's position: every p; the
-/// spring board at the width that Choose width gives; the largest table, with the piece on its last square; four keys of 65,536
-/// bytes together.
+/// spring board at the width that Choose width gives; the largest table, with the piece on its
+/// last square; four keys of 65,536 bytes together.
 const BOARDS: [(&str, Numbers, usize); 6] = [
     ("spring", (4, 72, 36, 1), 41),
     ("three", (3, 7, 3, 16), 5),

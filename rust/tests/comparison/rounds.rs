@@ -12,13 +12,14 @@ use reference::key::key_bytes;
 use reference::open::open_one;
 use reference::page::page_bytes;
 
-/// Boards (p, N, μ, w) at the limits, each visited once: document 01's own, the least and the largest numbers, 256 grid rows, a short last
-/// grid row, header numbers in one, two and three groups; last values of all widths that do not divide a block, in rows
-/// that have a cell in two blocks.
-pub const LIMIT_BOARDS: [(u32, u32, u32, u32); 33] = [
+/// Boards (p, N, μ, w) at the limits, each visited once: document 01's own, the spring board at the width that Choose
+/// width gives, the least and the largest numbers, 256 grid rows, a short last grid row, header numbers in one, two and
+/// three groups; last values of all widths that do not divide a block, in rows that have a cell in two blocks.
+pub const LIMIT_BOARDS: [(u32, u32, u32, u32); 34] = [
     (2, 6, 4, 1),
     (2, 2, 2, 1),
     (4, 72, 24, 1),
+    (4, 72, 36, 1),
     (2, 1, 1, 1),
     (6, 1, 1, 1),
     (3, 1, 1, 16),
@@ -334,7 +335,7 @@ impl Comparison {
         self.expand(&seed, start, length);
     }
 
-    /// Few positions as often as many, of which the widest grid is often the best.
+    /// Few positions as often as many: for many the widest grid is often the best.
     fn drawn_choose_width(&mut self) {
         let players = self.generator.near(FEWEST_PLAYERS, MOST_PLAYERS);
         let most_positions = self.generator.pick(&[100, 1_000, 10_000, MOST_POSITIONS]);

@@ -4,6 +4,7 @@
 use mathlib.Core.Logic.{⊎-elim}
 use Prim.Native.Nat.{_-_, _≤_}
 use native.Mathlib.Omega.{arith}
+use Rattle.grid.proofs.Refusing.{in-range}
 use Rattle.key_width.proofs.Shortest.{width-accepted, So-far, begun, turn-taken, turn-longer, turn-higher, all-tried}
 use Rattle.key_width.proofs.shortest_width.Statement.{statement}
 use Rattle.key_width.proofs.shortest_width.Tie as tie
@@ -37,7 +38,8 @@ loop-again c =
     )
 
 grid-rows-for-requires : tie.Need-grid-rows-for-requires Inv-loop μ-loop
-grid-rows-for-requires c κs = (omega arith, omega arith, omega arith)
+grid-rows-for-requires c κs =
+    (in-range 1 _ 65536 (c .before .before .pre .positions) .1, omega arith, omega arith)
 
 key-length-requires : tie.Need-key-length-requires Inv-loop μ-loop
 key-length-requires c κs =

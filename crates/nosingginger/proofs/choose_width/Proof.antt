@@ -1,6 +1,6 @@
 -- `nosingginger::choose_width` meets its contract. Assumes nothing.
 use mathlib.Core.Path.{_∙_}
-use Rattle.grid.proofs.Refusing.{In, in-range, passed, failed}
+use Rattle.grid.proofs.Refusing.{In, passed, failed}
 use Rattle.call_answers.proofs.Answering.{width-refused-1, width-refused-2, width-refused-4, width-given}
 use borrow.Author.Needs.{needs}
 use Rattle.nosingginger.proofs.choose_width.Statement.{statement}
@@ -63,17 +63,7 @@ refused-requires-3 c κs = search needs
 shortest-width-requires : tie.Need-shortest-width-requires
 shortest-width-requires c κs =
     let b = c .before .before in
-    let players = in-range _ _ _ (players-in (b .before .before)) in
-    let positions = in-range _ _ _ (positions-in b) in
-    let value = in-range _ _ _ (value-in c) in
-    record {
-      players-least = players .0;
-      players-most = players .1;
-      positions-least = positions .0;
-      positions-most = positions .1;
-      value-least = value .0;
-      value-most = value .1;
-    }
+    record { players = players-in (b .before .before); positions = positions-in b; value = value-in c }
 
 accepted-requires : tie.Need-accepted-requires
 accepted-requires c κs = search needs
