@@ -335,11 +335,16 @@ impl Comparison {
         self.expand(&seed, start, length);
     }
 
-    /// Few positions as often as many: for many the widest grid is often the best.
+    /// Few positions as often as many: for many the widest grid is often the best. Half of them fill all grid rows of a
+    /// drawn width, or begin one more.
     fn drawn_choose_width(&mut self) {
         let players = self.generator.near(FEWEST_PLAYERS, MOST_PLAYERS);
         let most_positions = self.generator.pick(&[100, 1_000, 10_000, MOST_POSITIONS]);
-        let positions = self.generator.near(1, most_positions);
+        let mut positions = self.generator.near(1, most_positions);
+        if self.generator.one_in(2) {
+            let width = self.generator.within(1, MOST_GRID_WIDTH);
+            positions = (positions / width * width).saturating_add(self.generator.within(0, 1));
+        }
         let value_bytes = self.generator.near(1, MOST_VALUE_WIDTH);
         self.choose_width(players, positions, value_bytes);
     }
