@@ -1,5 +1,7 @@
 // What the operations answer: the refusal numbers by name, a number with a value, and what Deal answers. The contracts
 // of all operations but Join keys stand in specs/Answers.antt. Assumes nothing.
+#![tactic(auto)]
+
 ghost use Rattle.std.specs.Prelude.{◌≡◌};
 ghost use Rattle.call_answers.specs.Answers.{told, share_fits, sizes_refusal};
 

@@ -1,6 +1,8 @@
 // What shares pick of a deck: the XOR of the cards at which a share of one byte has its lowest bit set. Half of the
 // shares have, at random, and which ones is secret: so no card is asked whether it is wanted. The shares are made
 // masks, and every byte of every card is XORed under its mask, two cards in one pass over the sum. Assumes nothing.
+#![tactic(auto)]
+
 ghost use Rattle.std.specs.Prelude.{◌≡◌, ◌+◌, ◌*◌, ◌≤◌, length, take, drop};
 ghost use Rattle.xor.specs.Xor.{xors};
 ghost use Rattle.cards.specs.Cards.{at_share, picked, mask, masks};

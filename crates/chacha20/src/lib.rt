@@ -4,6 +4,8 @@
 // key, the nonce twelve zeros and the block counter from 0: crate seed_row makes any stretch of them. The meanings of
 // all of it stand in specs/Expand.antt, specs/From.antt and specs/Rfc8439.antt, and specs/Lines.antt has the lines
 // that are stepped together for speed. Assumes nothing.
+#![tactic(auto)]
+
 ghost use Rattle.std.specs.Prelude.{◌≡◌, ◌<◌};
 ghost use Rattle.chacha20.specs.Expand.{rolled, xor_word, mixed, double_round, rounds};
 ghost use Rattle.chacha20.specs.Rfc8439.{Places, quarter_at};

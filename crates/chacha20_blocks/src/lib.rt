@@ -1,5 +1,7 @@
 // ChaCha20's block function by RFC 8439, section 2.3, under the RFC's name. Its meaning stands in crate chacha20.
 // Assumes nothing.
+#![tactic(auto)]
+
 ghost use Rattle.std.specs.Prelude.{◌≡◌, length};
 ghost use Rattle.chacha20.specs.Rfc8439.{chacha20_block};
 

@@ -1,5 +1,7 @@
 // Blocks of ChaCha20 side by side: four counters of one seed, or four seeds at one counter. The lanes are opened, go
 // through the rounds together and are serialized one after another. Assumes nothing.
+#![tactic(auto)]
+
 ghost use Rattle.std.specs.Prelude.{◌≡◌, ◌+◌, ◌*◌, ◌^◌, ◌<◌, length, take, drop};
 ghost use Rattle.chacha20.specs.Expand.{seed_state, blocks};
 ghost use Rattle.chacha20_lanes.specs.Lanes.{SideBySide, lanes_bytes, lanes_blocks, blocks_at};

@@ -1,6 +1,8 @@
 // Four states of ChaCha20 side by side, so that the compiler fills its vector registers. They stand in sixty-four words, word w of lane l at
 // 4·w + l. A lane is taken out, goes through a double round as an ordinary state and is put back, in a loop over the lanes that becomes one
 // pass over vectors. Assumes nothing.
+#![tactic(auto)]
+
 ghost use Rattle.std.specs.Prelude.{◌≡◌, ◌<◌, length};
 ghost use Rattle.chacha20.specs.Expand.{double_round, rounds};
 ghost use Rattle.chacha20_lanes.specs.Lanes.{lane_of, SideBySide, Put};

@@ -1,5 +1,7 @@
 // ChaCha20's state as words and as bytes, by RFC 8439, section 2.3: the initial state read from key, block counter and nonce, the input words
 // added to the output words, and a state serialized. The meanings stand in crate chacha20. Assumes nothing.
+#![tactic(auto)]
+
 ghost use Rattle.std.specs.Prelude.{◌≡◌, ◌+◌, ◌≤◌, [], ◌∷◌, length};
 ghost use Rattle.chacha20.specs.Expand.{word_at, sums, low_bytes};
 ghost use Rattle.chacha20.specs.Rfc8439.{initial_state};

@@ -1,5 +1,7 @@
 // Dealing: the refusals 1 to 7, 18 to 20 with their place, and 9, in this order, and the keys of all players. Nothing
 // is written before all is asked. Assumes nothing.
+#![tactic(auto)]
+
 ghost use Rattle.std.specs.Prelude.{◌≡◌};
 ghost use Rattle.grid.specs.Grid.{board_refusal};
 ghost use Rattle.grid.specs.Code.{board_of};

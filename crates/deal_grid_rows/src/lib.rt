@@ -1,4 +1,6 @@
 // The grid rows of a key: a player's marks, packed, and the seeds of the marked columns. Assumes nothing.
+#![tactic(auto)]
+
 ghost use Rattle.std.specs.Prelude.{◌≡◌, cond, [], ◌+◌, ◌*◌, ◌/◌, ◌≤◌, ◌<◌, length};
 ghost use Rattle.grid.specs.Grid.{board_refusal, columns, grid_rows, arrays_long, seeds_long};
 ghost use Rattle.grid.specs.Code.{board_of};

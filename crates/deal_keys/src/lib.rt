@@ -1,4 +1,6 @@
 // Dealing: the keys of an accepted dealing, written one after another. Refusals stand above this crate. Assumes nothing.
+#![tactic(auto)]
+
 ghost use Rattle.std.specs.Prelude.{◌≡◌, ◌+◌, ◌*◌, ◌≤◌, ◌<◌, length};
 ghost use Rattle.grid.specs.Grid.{board_refusal, arrays_long, seeds_long};
 ghost use Rattle.grid.specs.Code.{board_of};

@@ -1,5 +1,7 @@
 // The last correction word: the XOR of the piece, of the lent words, and of all rows of the point's grid row, so that all words and rows
 // there XOR to the piece. Assumes nothing.
+#![tactic(auto)]
+
 ghost use Rattle.std.specs.Prelude.{◌≡◌, ◌++◌, ◌+◌, ◌*◌, ◌-◌, ◌≤◌, ◌<◌, length};
 ghost use Rattle.xor.specs.Xor.{zeros};
 ghost use Rattle.grid.specs.Grid.{board_refusal, columns, row_long, xor_all, seeds_long, words_long};

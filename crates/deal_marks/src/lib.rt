@@ -1,4 +1,6 @@
 // A player's marks in the columns of a grid row, packed into bytes: the k-th of eight columns is bit k. Assumes nothing.
+#![tactic(auto)]
+
 ghost use Rattle.std.specs.Prelude.{◌≡◌, ◌+◌, ◌≤◌, ◌<◌, length, get_or, drop};
 ghost use Rattle.grid.specs.Grid.{bit};
 ghost use Rattle.keys.specs.Keys.{packed_from, packed};

@@ -1,6 +1,8 @@
 // The dealing program: five numbers, value, arrays, seeds and words from standard input, the keys or `refused n` to standard output. It
 // reads one byte more than the most, so that an input above that is known. The work is `program_deal::run`, whose types are those of the
 // buffers. Assumes nothing.
+#![tactic(auto)]
+
 use libc::{STDIN_FILENO, STDOUT_FILENO};
 
 fn main() {

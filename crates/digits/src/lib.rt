@@ -1,6 +1,8 @@
 // Digits as bytes: numbers in decimal, unpadded or right-aligned, and bytes in hexadecimal. Each writer writes at a
 // place, answers the place behind what it wrote, and leaves every other byte as it was (`Wrote` of the crate writer).
 // Their meaning is specs/Digits.antt. Assumes nothing.
+#![tactic(auto)]
+
 ghost use Rattle.std.specs.Prelude.{◌≡◌, cond, ◌+◌, ◌%◌, ◌≤◌, eqb, length};
 ghost use Rattle.writer.specs.Written.{Wrote};
 ghost use Rattle.digits.specs.Digits.{decimal, right_aligned, hex};

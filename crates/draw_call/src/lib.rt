@@ -1,6 +1,8 @@
 // Draw card: Check key's numbers, 21, 22 and 9, and the XOR of the cards at which the entries of a key's full table are
 // odd (field: the answer of one server in private information retrieval). No table is kept: the entries are worked out
 // one grid row at a time. Assumes nothing.
+#![tactic(auto)]
+
 mod refusal;
 
 ghost use Rattle.std.specs.Prelude.{◌≡◌, ◌*◌, ◌≤◌, ◌<◌, length};

@@ -1,6 +1,8 @@
 // The check of a dealing's arrays: their first fault, a column with a bit at p or above (18), of the wrong parity (19),
 // or that stood earlier in its array (20). An array of J columns without a fault holds every column of its parity
 // exactly once. Each array is gone over once, and number and place come from that.
+#![tactic(auto)]
+
 ghost use Rattle.std.specs.Prelude.{◌≡◌, ◌*◌, ◌<◌, length};
 ghost use Rattle.grid.specs.Grid.{board_refusal, columns, grid_rows, arrays_long};
 ghost use Rattle.grid.specs.Code.{board_of};

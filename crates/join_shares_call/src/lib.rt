@@ -1,4 +1,6 @@
 // Join shares: the refusals 1, 4, 7 and 9, and the XOR of the shares of all players. Assumes nothing.
+#![tactic(auto)]
+
 ghost use Rattle.std.specs.Prelude.{◌≡◌, ◌*◌, length};
 ghost use Rattle.call_answers.specs.Answers.{joined_shares, shares_refusal, JoinSays};
 

@@ -1,5 +1,7 @@
 // The joining program: p keys from standard input, the joined table's text or `refused n` to standard output. It reads one byte more than
 // the most, so that an input above that is known. The work is `program_join::run`, whose types are those of the buffers. Assumes nothing.
+#![tactic(auto)]
+
 use libc::{STDIN_FILENO, STDOUT_FILENO};
 
 fn main() {

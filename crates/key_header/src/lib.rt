@@ -1,4 +1,6 @@
 // The header of a key, p, player, N, μ, w: read, checked, measured and written here and nowhere else. Assumes nothing.
+#![tactic(auto)]
+
 ghost use Rattle.std.specs.Prelude.{◌≡◌, ◌+◌, ◌≤◌, ◌<◌, length};
 ghost use Rattle.grid.specs.Grid.{board_refusal};
 ghost use Rattle.grid.specs.Code.{board_of};

@@ -1,5 +1,7 @@
 // How long things are in a key: a grid row's marks, a grid row, all that stands behind the header, and the whole key of an accepted board.
 // Assumes nothing.
+#![tactic(auto)]
+
 ghost use Rattle.std.specs.Prelude.{◌≡◌};
 ghost use Rattle.grid.specs.Grid.{board_refusal};
 ghost use Rattle.grid.specs.Code.{board_of};

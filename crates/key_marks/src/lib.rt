@@ -1,5 +1,7 @@
 // The marks of a grid row of a key, and where the seeds of its marked columns stand, in the part of the key that begins at it.
 // A mark that stands past the end of the part counts as zero, so that these functions ask nothing of the part's length. Assumes nothing.
+#![tactic(auto)]
+
 ghost use Rattle.std.specs.Prelude.{◌≡◌, ◌-◌, ◌≤◌};
 ghost use Rattle.grid.specs.Grid.{board_refusal, columns, grid_rows};
 ghost use Rattle.grid.specs.Code.{board_of};

@@ -1,4 +1,6 @@
 // The grid width that makes the shortest key: all widths are tried, each by Key length's own length. Assumes nothing.
+#![tactic(auto)]
+
 ghost use Rattle.std.specs.Prelude.{◌≡◌};
 ghost use Rattle.key_width.specs.Width.{InRange, width};
 

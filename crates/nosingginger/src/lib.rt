@@ -3,6 +3,8 @@
 // lent byte, of refused calls too. A refused call changes nothing that is lent. Deal, the openings, the draw, the joins,
 // the page and the tally are crates of their own, passed on here, as are Check key and Held seed of the crate key_check.
 // Assumes nothing.
+#![tactic(auto)]
+
 ghost use Rattle.call_answers.specs.Answers.{LongSays, ExpandSays, WidthSays, SensorSays};
 
 pub mod refusals;

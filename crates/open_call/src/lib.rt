@@ -1,4 +1,6 @@
 // Open one and Open all, behind their refusals. Assumes nothing.
+#![tactic(auto)]
+
 mod square;
 mod table;
 

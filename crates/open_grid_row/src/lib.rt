@@ -2,6 +2,8 @@
 // XOR over the player's marked columns of word and row. The held seeds of a grid row stand one after another, so that
 // all their rows are XORed at once, and the words after them. Crate open_key calls it for each grid row of a table, or
 // for one square. Assumes nothing.
+#![tactic(auto)]
+
 ghost use Rattle.std.specs.Prelude.{◌≡◌, cond, ◌+◌, ◌*◌, ◌-◌, ◌/◌, ◌≤◌, ◌<◌, length, take, drop};
 ghost use Rattle.xor.specs.Xor.{xors};
 ghost use Rattle.seed_rows.specs.Rows.{rule};

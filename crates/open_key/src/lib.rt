@@ -3,6 +3,8 @@
 // by grid row, written or XORed into what is there (field: full-domain evaluation of a key, and evaluation at one
 // point). All are stretches of a grid row's shares, which crate open_grid_row works out. Whoever calls has checked the
 // key and the room for the output, and passes what stands behind the header. Assumes nothing.
+#![tactic(auto)]
+
 ghost use Rattle.std.specs.Prelude.{◌≡◌, ◌*◌, ◌≤◌, ◌<◌, min, length};
 ghost use Rattle.xor.specs.Xor.{xors};
 ghost use Rattle.writer.specs.Written.{in_front};

@@ -1,5 +1,7 @@
 // The board on a page: a table as lines of eight cells, which clubs pin up. Everything is written straight into the
 // lent output, line behind line. Its meaning is specs/Page.antt. Assumes nothing.
+#![tactic(auto)]
+
 ghost use Rattle.std.specs.Prelude.{◌≡◌, ◌∷◌, ◌+◌, ◌*◌, ◌≤◌, ◌<◌, min, length};
 ghost use Rattle.writer.specs.Written.{Wrote};
 ghost use Rattle.digits.specs.Digits.{hex, spaces};

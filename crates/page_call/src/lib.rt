@@ -1,4 +1,6 @@
 // Write page: the refusals 2, 4, 7 and 9, and the page of a table. Assumes nothing.
+#![tactic(auto)]
+
 ghost use Rattle.std.specs.Prelude.{◌≡◌};
 ghost use Rattle.call_answers.specs.Answers.{page_refusal, PageSays};
 

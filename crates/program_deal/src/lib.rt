@@ -1,6 +1,8 @@
 // The dealing program as one function: five numbers and the lent parts in, the keys out, which stand at the front of the lent output. The
 // output has room for the most bytes by its type, so that Deal's 9 is the program's. It requires nothing. Its meaning is
 // specs/Dealing.antt. Assumes nothing.
+#![tactic(auto)]
+
 ghost use Rattle.std.specs.Prelude.{◌≡◌, ◌*◌, ◌<◌, length};
 ghost use Rattle.grid.specs.Grid.{board_refusal};
 ghost use Rattle.grid.specs.Code.{board_of};

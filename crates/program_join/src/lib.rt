@@ -1,6 +1,8 @@
 // The joining program as one function: p keys in, the text of the joined table out, which stands at the front of the lent output. The table
 // that it joins in has the most bytes by its type, so that Join keys' 9 is the program's, and the output has room for every text. It requires
 // nothing. Its meaning is specs/Joining.antt. Assumes nothing.
+#![tactic(auto)]
+
 ghost use Rattle.std.specs.Prelude.{◌≡◌, ◌*◌, ◌≤◌, length, take};
 ghost use Rattle.keys.specs.Keys.{head_in, or_else, head_refusal};
 ghost use Rattle.text.specs.Text.{table_text};

@@ -1,5 +1,7 @@
 // What the two programs share: the most bytes, buffers for what they read and write, and the line of a refusal. What an output says is
 // specs/Output.antt. Assumes nothing.
+#![tactic(auto)]
+
 ghost use Rattle.std.specs.Prelude.{◌≡◌, ◌≤◌, length};
 ghost use Rattle.text.specs.Text.{refused_line};
 ghost use Rattle.program_output.specs.Output.{line_bytes, read_bytes, text_bytes, Writes};

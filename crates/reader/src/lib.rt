@@ -1,5 +1,7 @@
 // Total readers of a slice, whatever its length: the byte at a place, and the part that begins at one. Nothing has to be known of the bytes
 // before they are read. Assumes nothing.
+#![tactic(auto)]
+
 ghost use Rattle.std.specs.Prelude.{◌≡◌, get_or, drop};
 
 // The byte at a place, and 0 past the end.

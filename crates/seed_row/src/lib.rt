@@ -1,6 +1,8 @@
 // One row from its seed, by document 01, from any byte of it on: `expand` writes a stretch of it, `xor_row` XORs one
 // into an output. Both go over the stretch by the blocks that hold it, four at a time: four counters side by side, or
 // one block by itself where one holds all that is left. Assumes nothing.
+#![tactic(auto)]
+
 ghost use Rattle.std.specs.Prelude.{◌≡◌, ◌⊎◌, ◌+◌, ◌-◌, ◌%◌, ◌^◌, ◌<◌, ◌≤◌, min, length, take};
 ghost use Rattle.xor.specs.Xor.{xors, zeros};
 ghost use Rattle.chacha20.specs.From.{expand_from};

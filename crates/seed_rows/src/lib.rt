@@ -2,6 +2,8 @@
 // is what opening does over a player's held seeds of a grid row, and dealing over all seeds of the point's grid row.
 // Stretches that fewer than four blocks hold are made of four seeds side by side, block by block; the others, and
 // those of the seeds left over, one by one. Assumes nothing.
+#![tactic(auto)]
+
 ghost use Rattle.std.specs.Prelude.{◌≡◌, ◌+◌, ◌*◌, ◌/◌, ◌%◌, ◌≤◌, length};
 ghost use Rattle.xor.specs.Xor.{xors};
 ghost use Rattle.seed_rows.specs.Rows.{rows_joined};

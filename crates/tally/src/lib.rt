@@ -1,6 +1,8 @@
 // A tally's four numbers: which are refused, and which keys are the tally's. The tally itself is a table that the caller
 // lends, N entries of w bytes, and each phone has one of its own. The calls are those of the crate tally_call; what they
 // answer stands in specs/Tallies.antt, and what a run of them leaves in specs/Runs.antt. Assumes nothing.
+#![tactic(auto)]
+
 ghost use Rattle.std.specs.Prelude.{◌≡◌};
 ghost use Rattle.grid.specs.Code.{board_of};
 ghost use Rattle.tally.specs.Tallies.{tally_refusal, takes};

@@ -1,6 +1,8 @@
 // The calls of a tally over many hunts, behind their refusals: make, add, look up, total. Each phone has a tally of its
 // own, and adds its keys to it; the tallies of all phones, joined entry by entry, show the XOR of all that was hidden on
 // each square. Every call is given the tally's four numbers and lent its table. Assumes nothing.
+#![tactic(auto)]
+
 ghost use Rattle.tally.specs.Tallies.{MakeSays, AddSays, LookUpSays, TotalSays};
 
 use call_answers::refusals::{ACCEPTED, REFUSED_POSITION, REFUSED_ROOM, REFUSED_TALLY};

@@ -1,4 +1,6 @@
 // What a call answered and left behind, beside what the file of cases says. Its meaning is specs/Answers.antt. Assumes nothing.
+#![tactic(auto)]
+
 ghost use Rattle.std.specs.Prelude.{◌≡◌, true, length, replicate};
 ghost use Rattle.test_answers.specs.Answers.{SameNumbers, Left};
 

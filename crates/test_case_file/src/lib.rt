@@ -1,5 +1,7 @@
 // Reading the file of cases, whose format is reference/FORMAT.md. Every reader is total: a byte past the end is 0, and a part is cut where
 // the bytes end. So nothing has to be known of a file before it is read, and a damaged one gives cases that differ. Assumes nothing.
+#![tactic(auto)]
+
 ghost use Rattle.std.specs.Prelude.{◌≡◌, ◌+◌, ◌*◌, ◌≤◌, take, drop};
 ghost use Rattle.test_case_file.specs.File.{number_in, number_at};
 

@@ -3,6 +3,8 @@
 // A line for each operation says how many cases it has, how many of them are refusals, and how many are equal; a line `DIFFERENT case n`,
 // counted from 0, stands before it for each that is not. The checksum holds those bytes, such as a seed in a key that is only checked, on
 // which no answer depends. `reference/make-data` makes the file again. Assumes nothing.
+#![tactic(auto)]
+
 mod calls;
 mod cases;
 mod operations;

@@ -3,6 +3,8 @@
 // byte of marks at 5 and at 38, and a seed), and two words of 4.
 // A line for each byte: its place, and what each value there gives, by runs of values (the byte's own value is no change).
 // Then a line for each grid row and column, also those that do not exist: where the held seed stands in the unchanged key, 0 for none.
+#![tactic(auto)]
+
 ghost use Rattle.std.specs.Prelude.{◌<◌};
 
 use io::print_decimal;

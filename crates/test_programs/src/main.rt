@@ -2,6 +2,8 @@
 // the list, data/cases, names a program, the file that it reads, how many bytes it reads, which are zeros behind the file's own, and the file
 // that it must write, with one space between them. The function is given all these bytes, above the most too. Each case is compared as this
 // program runs, and a line says whether what is written is equal to the file, byte for byte. Assumes nothing.
+#![tactic(auto)]
+
 ghost use Rattle.std.specs.Prelude.{◌≡◌, ◌≤◌, ◌<◌, length};
 
 use libc::STDOUT_FILENO;

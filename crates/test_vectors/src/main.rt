@@ -1,6 +1,8 @@
 // Test vectors: RFC 8439's quarter round (2.1.1), block (2.3.2) and key streams (A.1), as the RFC prints them, expansions of two seeds, from
 // the start and from later bytes on, against the key streams that OpenSSL wrote into data/ (make-data.sh), and those lines of document 01
 // that are not marked †. Each is compared as the program runs, and a line says whether they are equal. Assumes nothing.
+#![tactic(auto)]
+
 ghost use Rattle.std.specs.Prelude.{◌≡◌, ◌+◌, ◌≤◌, length};
 
 use grid::board::Board;

@@ -1,5 +1,7 @@
 // Text as bytes: the line of a refusal and the lines of a joined table. Each writer writes at a place, answers the place behind what it
 // wrote, and leaves every other byte as it was (`Wrote` of the crate writer). Their meaning is specs/Text.antt. Assumes nothing.
+#![tactic(auto)]
+
 ghost use Rattle.std.specs.Prelude.{◌≡◌, ◌+◌, ◌*◌, ◌≤◌, length};
 ghost use Rattle.writer.specs.Written.{Wrote};
 ghost use Rattle.text.specs.Text.{named, refused_line, board_line, position_line, position_lines, table_text};

@@ -3,6 +3,8 @@
 // other square; `open_both_ways` opens a square of a key by Open one and the whole key by Open all, and both give the
 // square the same bytes. The contracts say every lent byte afterwards, of refused calls too. The proofs use the calls'
 // contracts and nothing else of their code. No part of the shipped library. Assumes nothing.
+#![tactic(auto)]
+
 ghost use Rattle.std.specs.Prelude.{◌≡◌, length};
 ghost use Rattle.grid.specs.Grid.{board};
 ghost use Rattle.keys.specs.Keys.{lent};

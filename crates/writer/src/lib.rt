@@ -1,6 +1,8 @@
 // Writing into a lent output: a part, a byte, or a copy of bytes that stand there already, at a place. Each writer answers the place behind
 // what it wrote, so that the next begins there, and leaves every other byte as it was. Their meaning is `Wrote` of specs/Written.antt.
 // Assumes nothing.
+#![tactic(auto)]
+
 ghost use Rattle.std.specs.Prelude.{◌≡◌, [], ◌∷◌, ◌+◌, ◌≤◌, ◌<◌, length, take, drop, replicate};
 ghost use Rattle.writer.specs.Written.{Wrote};
 

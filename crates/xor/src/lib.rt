@@ -1,5 +1,7 @@
 // XOR of byte strings. `xor_into` XORs a row of bytes into another of the same length, place by place; every share, word and table of
 // the library is made by it. Its meaning is `xors` of specs/Xor.antt. Assumes nothing.
+#![tactic(auto)]
+
 ghost use Rattle.std.specs.Prelude.{◌≡◌, length};
 ghost use Rattle.xor.specs.Xor.{xors};
 
