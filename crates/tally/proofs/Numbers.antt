@@ -10,7 +10,7 @@ use Rattle.grid.specs.Grid.{Board}
 use Rattle.grid.proofs.Refusing.{passed as passed_test}
 use Rattle.keys.specs.Keys.{or_else}
 use Rattle.keys.proofs.Accepted.{passed, first_fits, next_fits, neither}
-use Rattle.call_answers.specs.Answers.{sizes_refusal}
+use Rattle.call_answers.specs.Answers.{width_refusal}
 use Rattle.call_answers.proofs.Numbers.{sizes_most}
 use Rattle.call_answers.proofs.Weighing.{short, beyond, place_number}
 use Rattle.tally.specs.Tallies.{tally_long, tally_refusal, takes}
@@ -18,7 +18,7 @@ use Rattle.tally.specs.declared.Tally.{Tally}
 
 module _ (t : Tally) where
   abbrev sizes : ℕ
-  sizes = sizes_refusal t.players t.positions t.value_bytes
+  sizes = width_refusal t.players t.positions t.value_bytes
 
   module _ (room : ℕ) where
     -- the number due behind 1, 2 and 4, as a sum: 11 for a player who is none, 9 for a short room
