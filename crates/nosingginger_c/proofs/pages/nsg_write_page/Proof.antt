@@ -1,9 +1,9 @@
--- `nosingginger_c::page::nsg_write_page` meets its contract. Assumes nothing.
+-- `nosingginger_c::pages::nsg_write_page` meets its contract. Assumes nothing.
 use Rattle.nosingginger_c.proofs.Pointers.{said_through}
 use Rattle.call_answers.specs.Answers.{PageSays}
 use borrow.Author.Rules.{rules}
-use Rattle.nosingginger_c.proofs.page.nsg_write_page.Statement.{statement}
-use Rattle.nosingginger_c.proofs.page.nsg_write_page.Tie as tie
+use Rattle.nosingginger_c.proofs.pages.nsg_write_page.Statement.{statement}
+use Rattle.nosingginger_c.proofs.pages.nsg_write_page.Tie as tie
 
 returns : tie.Need-returns
 unfolding PageSays
