@@ -38,7 +38,7 @@ pub fn sizes_refusal(players: u32, positions: u32, value_bytes: u32) -> u32
 }
 
 // A number and a value: the number of a refusal with 0, or 0 with the value asked.
-#[derive(Drop)]
+#[derive(Clone, Copy)]
 pub struct Answer {
     pub refusal: u32,
     pub value: u32,
@@ -66,7 +66,7 @@ pub fn accepted(value: u32) -> Answer
 
 // What Deal answers: 0, or the number of a refusal that has no place; or the first fault of the arrays, 18, 19 or 20
 // with its grid row and column.
-#[derive(Drop)]
+#[derive(Clone, Copy)]
 pub enum DealAnswer {
     Number(u32),
     Fault(Fault),

@@ -31,7 +31,7 @@ pub const REFUSED_VALUE_BYTES: u32 = 4;
 pub const REFUSED_GRID_ROWS: u32 = 5;
 
 // p, N, μ and w: players, positions, cells of a grid row, bytes of a value.
-#[derive(Drop)]
+#[derive(Clone, Copy)]
 pub struct Board {
     pub players: u32,
     pub positions: u32,

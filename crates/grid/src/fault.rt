@@ -12,7 +12,7 @@ pub const REFUSED_COLUMN_TWICE: u32 = 20;
 
 // The first fault of a dealing's arrays: its number, or 0 where there is none, and the grid row and the column where it
 // stands.
-#[derive(Drop)]
+#[derive(Clone, Copy)]
 pub struct Fault {
     pub number: u32,
     pub grid_row: u32,

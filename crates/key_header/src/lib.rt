@@ -21,21 +21,21 @@ pub const REFUSED_NUMBER: u32 = 10;
 pub const REFUSED_PLAYER: u32 = 11;
 
 // The five numbers of a header: those of the board, and the player.
-#[derive(Drop)]
+#[derive(Clone, Copy)]
 pub struct Header {
     pub board: Board,
     pub player: u32,
 }
 
 // A header that was read, and the place where it ends.
-#[derive(Drop)]
+#[derive(Clone, Copy)]
 pub struct Heading {
     pub header: Header,
     pub end: usize,
 }
 
 // What the check of a key, or of its header alone, answers: the header, or the number that refuses.
-#[derive(Drop)]
+#[derive(Clone, Copy)]
 pub enum KeyCheck {
     Accepted(Heading),
     Refused(u32),

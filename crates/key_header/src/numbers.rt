@@ -9,21 +9,21 @@ use reader::byte;
 use writer::put_byte;
 
 // A place in the bytes that are read.
-#[derive(Drop)]
+#[derive(Clone, Copy)]
 pub struct Reader {
     pub at: usize,
 }
 
 // What stands at a reader's place: a number, and the reader behind it; or none, as the number is cut short, longer than three
 // groups or not in its shortest form.
-#[derive(Drop)]
+#[derive(Clone, Copy)]
 pub enum Number {
     Whole(u32, Reader),
     Broken,
 }
 
 // Five numbers one behind another, and the place behind them. Where one is none, `whole` is false, and it and all behind it are 0.
-#[derive(Drop)]
+#[derive(Clone, Copy)]
 pub struct Five {
     pub whole: bool,
     pub values: [u32; 5],

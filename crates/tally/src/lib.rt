@@ -12,7 +12,7 @@ use call_answers::sizes_refusal;
 use key_header::Header;
 
 // p, player, N and w: players, whose tally it is, positions, bytes of a value.
-#[derive(Drop)]
+#[derive(Clone, Copy)]
 pub struct Tally {
     pub players: u32,
     pub player: u32,
