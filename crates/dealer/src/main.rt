@@ -1,14 +1,29 @@
 // The dealing program: five numbers, value, arrays, seeds and words from standard input, the keys or `refused n` to standard output. It
 // reads one byte more than the most, so that an input above that is known. The work is `program_deal::run`, whose types are those of the
-// buffers. Assumes nothing.
+// buffers. Where a read or a write fails, it ends with that error. Assumes nothing.
 #![tactic(auto)]
 
-use libc::{STDIN_FILENO, STDOUT_FILENO};
+use std::io;
+use std::io::Read;
 
-fn main() {
+// Reads until the buffer is full or the input ends, and answers how many bytes stand at its front.
+fn read_full(rt: &impl Input, buffer: &mut [u8]) -> io::Result<usize> {
+    let mut reader = rt.reader();
+    let mut done: usize = 0;
+    while done < buffer.len() {
+        let count = reader.read(&mut buffer[done..])?;
+        if count == 0 {
+            break;
+        }
+        done += count;
+    }
+    Ok(done)
+}
+
+fn main(rt: HostRuntime) -> io::Result<()> {
     let mut input = program_output::input_buffer();
-    let count = io::read_full(STDIN_FILENO, &mut input);
-    let mut output = io::large_buffer();
+    let count = read_full(&rt, &mut input)?;
+    let mut output = [0u8; 65536];
     let written = program_deal::run(&input, count, &mut output);
-    io::write_all(STDOUT_FILENO, &output[..written]);
+    rt.write_all(&output[..written])
 }

@@ -1,14 +1,30 @@
 // The joining program: p keys from standard input, the joined table's text or `refused n` to standard output. It reads one byte more than
-// the most, so that an input above that is known. The work is `program_join::run`, whose types are those of the buffers. Assumes nothing.
+// the most, so that an input above that is known. The work is `program_join::run`, whose types are those of the buffers. Where a read or a
+// write fails, it ends with that error. Assumes nothing.
 #![tactic(auto)]
 
-use libc::{STDIN_FILENO, STDOUT_FILENO};
+use std::io;
+use std::io::Read;
 
-fn main() {
+// Reads until the buffer is full or the input ends, and answers how many bytes stand at its front.
+fn read_full(rt: &impl Input, buffer: &mut [u8]) -> io::Result<usize> {
+    let mut reader = rt.reader();
+    let mut done: usize = 0;
+    while done < buffer.len() {
+        let count = reader.read(&mut buffer[done..])?;
+        if count == 0 {
+            break;
+        }
+        done += count;
+    }
+    Ok(done)
+}
+
+fn main(rt: HostRuntime) -> io::Result<()> {
     let mut input = program_output::input_buffer();
-    let count = io::read_full(STDIN_FILENO, &mut input);
-    let mut table = io::large_buffer();
+    let count = read_full(&rt, &mut input)?;
+    let mut table = [0u8; 65536];
     let mut output = program_output::text_buffer();
     let written = program_join::run(&input, count, &mut table, &mut output);
-    io::write_all(STDOUT_FILENO, &output[..written]);
+    rt.write_all(&output[..written])
 }

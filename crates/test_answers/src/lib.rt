@@ -9,7 +9,7 @@ use reader::{byte, part_from};
 use test_case_file::{REFUSAL, RESULT_1, RESULT_2, RESULT_3, RESULT_4, RESULT_5, front, number_at};
 
 // The number of a refusal, or 0, and the numbers that an operation answers beside it; those that it has not are 0.
-#[derive(Drop)]
+#[derive(Clone, Copy)]
 pub struct Answered {
     pub refusal: u32,
     pub first: u32,

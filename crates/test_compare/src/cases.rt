@@ -10,7 +10,7 @@ use test_case_file::{
 };
 
 // Where a case begins, where its inputs begin, which may be those of a case before it, and where its answer's bytes begin.
-#[derive(Drop)]
+#[derive(Clone, Copy)]
 struct Place {
     head: usize,
     inputs: usize,
@@ -46,7 +46,7 @@ fn next(file: &[u8], place: Place) -> Place {
 }
 
 // How many cases, how many of them are refusals, and how many are equal.
-#[derive(Drop)]
+#[derive(Clone, Copy)]
 pub struct Tally {
     pub cases: u32,
     pub refused: u32,
