@@ -3,26 +3,12 @@
 // buffers. Where a read or a write fails, it ends with that error. Assumes nothing.
 #![tactic(auto)]
 
+use full_read::read_full;
 use std::io;
-use std::io::Read;
-
-// Reads until the buffer is full or the input ends, and answers how many bytes stand at its front.
-fn read_full(rt: &impl Input, buffer: &mut [u8]) -> io::Result<usize> {
-    let mut reader = rt.reader();
-    let mut done: usize = 0;
-    while done < buffer.len() {
-        let count = reader.read(&mut buffer[done..])?;
-        if count == 0 {
-            break;
-        }
-        done += count;
-    }
-    Ok(done)
-}
 
 fn main(rt: HostRuntime) -> io::Result<()> {
     let mut input = program_output::input_buffer();
-    let count = read_full(&rt, &mut input)?;
+    let count = read_full(&mut rt.reader(), &mut input)?;
     let mut output = [0u8; 65536];
     let written = program_deal::run(&input, count, &mut output);
     rt.write_all(&output[..written])
