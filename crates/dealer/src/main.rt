@@ -4,12 +4,11 @@
 #![tactic(auto)]
 
 use full_read::read_full;
-use std::io;
 
-fn main(rt: HostRuntime) -> io::Result<()> {
+fn main(rt: HostRuntime) -> std::io::Result<()> {
     let mut input = program_output::input_buffer();
     let count = read_full(&mut rt.reader(), &mut input)?;
-    let mut output = [0u8; 65536];
+    let mut output = io::large_buffer();
     let written = program_deal::run(&input, count, &mut output);
     rt.write_all(&output[..written])
 }

@@ -4,12 +4,11 @@
 #![tactic(auto)]
 
 use full_read::read_full;
-use std::io;
 
-fn main(rt: HostRuntime) -> io::Result<()> {
+fn main(rt: HostRuntime) -> std::io::Result<()> {
     let mut input = program_output::input_buffer();
     let count = read_full(&mut rt.reader(), &mut input)?;
-    let mut table = [0u8; 65536];
+    let mut table = io::large_buffer();
     let mut output = program_output::text_buffer();
     let written = program_join::run(&input, count, &mut table, &mut output);
     rt.write_all(&output[..written])

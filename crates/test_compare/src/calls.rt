@@ -178,14 +178,14 @@ fn held_seed(head: &[u8], inputs: &[u8], answer: &[u8]) -> bool {
 
 // The dealing program answers bytes alone, in an output of its own.
 fn dealing_program(inputs: &[u8], answer: &[u8]) -> bool {
-    let mut output = [0u8; 65536];
+    let mut output = io::large_buffer();
     let written = program_deal::dealing_program(inputs, &mut output);
     check::same(&output[..written], answer)
 }
 
 // The joining program too; it is lent a table beside its output.
 fn joining_program(inputs: &[u8], answer: &[u8]) -> bool {
-    let mut table = [0u8; 65536];
+    let mut table = io::large_buffer();
     let mut output = program_output::text_buffer();
     let written = program_join::joining_program(inputs, &mut table, &mut output);
     check::same(&output[..written], answer)

@@ -3,7 +3,6 @@ ghost use Rattle.std.specs.Prelude.{◌≤◌, ◌+◌, ◌<◌, ◌≡◌, IfOk
 
 use crate::calls::equal;
 use reader::byte;
-use std::io;
 use test_case_file::{
     FILE_HEAD_BYTES, HEAD_BYTES, OPERATION, REFUSAL, answer_length, count, further, inputs_kept,
     inputs_length, part,
@@ -54,7 +53,7 @@ pub struct Tally {
 }
 
 // Says that a case differs.
-fn report(rt: &impl Print, case: u32) -> io::Result<()> {
+fn report(rt: &impl Print, case: u32) -> std::io::Result<()> {
     rt.write_all(b"DIFFERENT case ")?;
     rt.print(case)?;
     rt.write_all(b"\n")
@@ -74,7 +73,7 @@ fn compare_one(
     case: u32,
     operation: u8,
     output: &mut [u8],
-) -> io::Result<Tally>
+) -> std::io::Result<Tally>
     ensures { IfOk result (λ tally. (tally.cases ≤ 1) × (tally.refused ≤ 1) × (tally.equal ≤ 1)) }
 {
     let head = part(file, place.head, HEAD_BYTES);
@@ -116,7 +115,7 @@ pub fn compare(
     file: &[u8],
     operation: u8,
     output: &mut [u8],
-) -> io::Result<Tally> {
+) -> std::io::Result<Tally> {
     let count = count(file);
     let mut tally = Tally {
         cases: 0,

@@ -16,13 +16,13 @@ use operations::{
     CHECK_KEY, CHOOSE_WIDTH, DEAL, DEALING_PROGRAM, DRAW_CARD, EXPAND, HELD_SEED, JOIN_KEYS,
     JOIN_SHARES, JOINING_PROGRAM, KEY_LENGTH, OPEN_ALL, OPEN_ONE, SENSOR_POSITION, WRITE_PAGE,
 };
-use std::{fs, io};
+use std::fs;
 
-fn text(rt: &impl Print, words: &[u8]) -> io::Result<()> {
+fn text(rt: &impl Print, words: &[u8]) -> std::io::Result<()> {
     rt.write_all(words)
 }
 
-fn number(rt: &impl Print, value: u32) -> io::Result<()> {
+fn number(rt: &impl Print, value: u32) -> std::io::Result<()> {
     rt.print(value)
 }
 
@@ -41,7 +41,7 @@ fn file_buffer() -> [u8; 2600000]
 }
 
 // One operation's line, behind those of its cases that differ.
-fn line(rt: &impl Print, name: &[u8], operation: u8, file: &[u8]) -> io::Result<()> {
+fn line(rt: &impl Print, name: &[u8], operation: u8, file: &[u8]) -> std::io::Result<()> {
     let mut output = output_buffer();
     let tally = cases::compare(rt, file, operation, &mut output)?;
     text(rt, name)?;
@@ -55,7 +55,7 @@ fn line(rt: &impl Print, name: &[u8], operation: u8, file: &[u8]) -> io::Result<
 }
 
 // The file's own line: its length, its checksum (Adler-32 of RFC 1950), and how many cases it says it has.
-fn file_line(rt: &impl Print, file: &[u8]) -> io::Result<()> {
+fn file_line(rt: &impl Print, file: &[u8]) -> std::io::Result<()> {
     rt.print(file.len())?;
     text(rt, b" bytes, checksum ")?;
     let checksum = test_case_file::checksum(file);
@@ -66,14 +66,14 @@ fn file_line(rt: &impl Print, file: &[u8]) -> io::Result<()> {
 }
 
 // Lengths, dealing and checking.
-fn key_lines(rt: &impl Print, file: &[u8]) -> io::Result<()> {
+fn key_lines(rt: &impl Print, file: &[u8]) -> std::io::Result<()> {
     line(rt, b"key length", KEY_LENGTH, file)?;
     line(rt, b"deal", DEAL, file)?;
     line(rt, b"check key", CHECK_KEY, file)
 }
 
 // Opening, drawing and joining.
-fn share_lines(rt: &impl Print, file: &[u8]) -> io::Result<()> {
+fn share_lines(rt: &impl Print, file: &[u8]) -> std::io::Result<()> {
     line(rt, b"open one", OPEN_ONE, file)?;
     line(rt, b"open all", OPEN_ALL, file)?;
     line(rt, b"draw card", DRAW_CARD, file)?;
@@ -83,7 +83,7 @@ fn share_lines(rt: &impl Print, file: &[u8]) -> io::Result<()> {
 }
 
 // The operations on seeds and on numbers alone.
-fn small_lines(rt: &impl Print, file: &[u8]) -> io::Result<()> {
+fn small_lines(rt: &impl Print, file: &[u8]) -> std::io::Result<()> {
     line(rt, b"held seed", HELD_SEED, file)?;
     line(rt, b"expand", EXPAND, file)?;
     line(rt, b"choose width", CHOOSE_WIDTH, file)?;
@@ -91,7 +91,7 @@ fn small_lines(rt: &impl Print, file: &[u8]) -> io::Result<()> {
 }
 
 // All lines.
-fn lines(rt: &impl Print, file: &[u8]) -> io::Result<()> {
+fn lines(rt: &impl Print, file: &[u8]) -> std::io::Result<()> {
     file_line(rt, file)?;
     key_lines(rt, file)?;
     share_lines(rt, file)?;
@@ -100,7 +100,7 @@ fn lines(rt: &impl Print, file: &[u8]) -> io::Result<()> {
     line(rt, b"joining program", JOINING_PROGRAM, file)
 }
 
-fn main(rt: HostRuntime) -> io::Result<()> {
+fn main(rt: HostRuntime) -> std::io::Result<()> {
     let mut opened = fs::open(&rt, "cases.bin")?;
     let mut file = file_buffer();
     let length = read_full(&mut opened, &mut file)?;

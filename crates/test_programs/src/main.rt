@@ -8,7 +8,7 @@ ghost use Rattle.std.specs.Prelude.{◌≡◌, ◌≤◌, ◌<◌, length, IfOk}
 
 use full_read::read_full;
 use std::rt::Files;
-use std::{fs, io, str};
+use std::{fs, str};
 
 // As many zeros as the joining program's output, and one more, so that a longer file is known. The `ensures` gives only the length, as in
 // `io::buffer`.
@@ -29,7 +29,7 @@ fn input_buffer() -> [u8; 200000]
 }
 
 // Whether a file of data/ has these bytes and no others.
-fn stored(rt: &impl Files, bytes: &[u8], path: &str) -> io::Result<bool> {
+fn stored(rt: &impl Files, bytes: &[u8], path: &str) -> std::io::Result<bool> {
     let mut file = fs::open(rt, path)?;
     let mut expected = file_buffer();
     let length = read_full(&mut file, &mut expected)?;
@@ -37,22 +37,22 @@ fn stored(rt: &impl Files, bytes: &[u8], path: &str) -> io::Result<bool> {
 }
 
 // Whether the dealing program writes the file.
-fn deals(rt: &impl Files, input: &[u8], path: &str) -> io::Result<bool> {
-    let mut output = [0u8; 65536];
+fn deals(rt: &impl Files, input: &[u8], path: &str) -> std::io::Result<bool> {
+    let mut output = io::large_buffer();
     let written = program_deal::dealing_program(input, &mut output);
     stored(rt, &output[..written], path)
 }
 
 // Whether the joining program writes the file.
-fn joins(rt: &impl Files, input: &[u8], path: &str) -> io::Result<bool> {
-    let mut table = [0u8; 65536];
+fn joins(rt: &impl Files, input: &[u8], path: &str) -> std::io::Result<bool> {
+    let mut table = io::large_buffer();
     let mut output = program_output::text_buffer();
     let written = program_join::joining_program(input, &mut table, &mut output);
     stored(rt, &output[..written], path)
 }
 
 // Whether the program of this name writes a file when it reads these bytes.
-fn writes(rt: &impl Files, program: &[u8], input: &[u8], path: &str) -> io::Result<bool> {
+fn writes(rt: &impl Files, program: &[u8], input: &[u8], path: &str) -> std::io::Result<bool> {
     if check::same(program, b"deal") {
         return deals(rt, input, path);
     }
@@ -98,7 +98,7 @@ fn equal(
     input_path: &str,
     count: usize,
     output_path: &str,
-) -> io::Result<bool>
+) -> std::io::Result<bool>
     requires { count ≤ 200000 }
 {
     let mut file = fs::open(rt, input_path)?;
@@ -113,7 +113,7 @@ fn path_in(word: &[u8]) -> &str {
 }
 
 // The end of a line: what a comparison has found.
-fn found(rt: &impl Print, equal: bool) -> io::Result<()> {
+fn found(rt: &impl Print, equal: bool) -> std::io::Result<()> {
     if equal {
         rt.write_all(b": equal\n")
     } else {
@@ -148,7 +148,7 @@ fn next_word(list: &[u8], end: usize) -> usize
 }
 
 // Runs the case of the line that begins at a place, and answers where the next one begins.
-fn run_line(rt: &(impl Files + Print), list: &[u8], at: usize) -> io::Result<usize>
+fn run_line(rt: &(impl Files + Print), list: &[u8], at: usize) -> std::io::Result<usize>
     requires { at < length list.now }
     ensures { IfOk result (λ next. at < next) }
 {
@@ -172,7 +172,7 @@ fn run_line(rt: &(impl Files + Print), list: &[u8], at: usize) -> io::Result<usi
 }
 
 // Runs the cases of the list, a line after another.
-fn run(rt: &(impl Files + Print), list: &[u8]) -> io::Result<()> {
+fn run(rt: &(impl Files + Print), list: &[u8]) -> std::io::Result<()> {
     let mut at: usize = 0;
     while at < list.len() {
         at = run_line(rt, list, at)?;
@@ -180,9 +180,9 @@ fn run(rt: &(impl Files + Print), list: &[u8]) -> io::Result<()> {
     Ok(())
 }
 
-fn main(rt: HostRuntime) -> io::Result<()> {
+fn main(rt: HostRuntime) -> std::io::Result<()> {
     let mut file = fs::open(&rt, "cases")?;
-    let mut list = [0u8; 65536];
+    let mut list = io::large_buffer();
     let length = read_full(&mut file, &mut list)?;
     run(&rt, &list[..length])
 }

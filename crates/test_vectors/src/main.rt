@@ -9,11 +9,11 @@ use full_read::read_full;
 use grid::board::Board;
 use key_header::numbers::{Number, Reader};
 use nosingginger::Answer;
+use std::fs;
 use std::rt::Files;
-use std::{fs, io};
 
 // The end of a line: what a comparison has found.
-fn found(rt: &impl Print, equal: bool) -> io::Result<()> {
+fn found(rt: &impl Print, equal: bool) -> std::io::Result<()> {
     if equal {
         rt.write_all(b": equal\n")
     } else {
@@ -34,7 +34,7 @@ fn same_words(state: [u32; 16], expected: [u32; 16]) -> bool {
 }
 
 // RFC 8439, 2.1.1: the four words at the places of the first quarter round, the others zero before and after.
-fn quarter_round(rt: &impl Print) -> io::Result<()> {
+fn quarter_round(rt: &impl Print) -> std::io::Result<()> {
     let state = [
         0x11111111, 0, 0, 0, 0x01020304, 0, 0, 0, 0x9b8d6f43, 0, 0, 0, 0x01234567, 0, 0, 0,
     ];
@@ -54,7 +54,7 @@ fn block(
     counter: u32,
     nonce: &[u8],
     expected: &[u8],
-) -> io::Result<()>
+) -> std::io::Result<()>
     requires { (length key.now ≡ 32) × (length nonce.now ≡ 12) }
 {
     let mut out = [0u8; 64];
@@ -64,7 +64,7 @@ fn block(
     found(rt, check::same(&out, expected))
 }
 
-fn block_2_3_2(rt: &impl Print) -> io::Result<()> {
+fn block_2_3_2(rt: &impl Print) -> std::io::Result<()> {
     let key =
         b"\x00\x01\x02\x03\x04\x05\x06\x07\x08\x09\x0a\x0b\x0c\x0d\x0e\x0f\x10\x11\x12\x13\x14\x15\x16\x17\x18\x19\x1a\x1b\x1c\x1d\x1e\x1f";
     let nonce = b"\x00\x00\x00\x09\x00\x00\x00\x4a\x00\x00\x00\x00";
@@ -73,7 +73,7 @@ fn block_2_3_2(rt: &impl Print) -> io::Result<()> {
     block(rt, b"block 2.3.2", key, 1, nonce, expected)
 }
 
-fn key_stream_1(rt: &impl Print) -> io::Result<()> {
+fn key_stream_1(rt: &impl Print) -> std::io::Result<()> {
     let key =
         b"\x00\x00\x00\x00\x00\x00\x00\x00\x00\x00\x00\x00\x00\x00\x00\x00\x00\x00\x00\x00\x00\x00\x00\x00\x00\x00\x00\x00\x00\x00\x00\x00";
     let nonce = b"\x00\x00\x00\x00\x00\x00\x00\x00\x00\x00\x00\x00";
@@ -82,7 +82,7 @@ fn key_stream_1(rt: &impl Print) -> io::Result<()> {
     block(rt, b"key stream A.1 #1", key, 0, nonce, expected)
 }
 
-fn key_stream_2(rt: &impl Print) -> io::Result<()> {
+fn key_stream_2(rt: &impl Print) -> std::io::Result<()> {
     let key =
         b"\x00\x00\x00\x00\x00\x00\x00\x00\x00\x00\x00\x00\x00\x00\x00\x00\x00\x00\x00\x00\x00\x00\x00\x00\x00\x00\x00\x00\x00\x00\x00\x00";
     let nonce = b"\x00\x00\x00\x00\x00\x00\x00\x00\x00\x00\x00\x00";
@@ -91,7 +91,7 @@ fn key_stream_2(rt: &impl Print) -> io::Result<()> {
     block(rt, b"key stream A.1 #2", key, 1, nonce, expected)
 }
 
-fn key_stream_3(rt: &impl Print) -> io::Result<()> {
+fn key_stream_3(rt: &impl Print) -> std::io::Result<()> {
     let key =
         b"\x00\x00\x00\x00\x00\x00\x00\x00\x00\x00\x00\x00\x00\x00\x00\x00\x00\x00\x00\x00\x00\x00\x00\x00\x00\x00\x00\x00\x00\x00\x00\x01";
     let nonce = b"\x00\x00\x00\x00\x00\x00\x00\x00\x00\x00\x00\x00";
@@ -100,7 +100,7 @@ fn key_stream_3(rt: &impl Print) -> io::Result<()> {
     block(rt, b"key stream A.1 #3", key, 1, nonce, expected)
 }
 
-fn key_stream_4(rt: &impl Print) -> io::Result<()> {
+fn key_stream_4(rt: &impl Print) -> std::io::Result<()> {
     let key =
         b"\x00\xff\x00\x00\x00\x00\x00\x00\x00\x00\x00\x00\x00\x00\x00\x00\x00\x00\x00\x00\x00\x00\x00\x00\x00\x00\x00\x00\x00\x00\x00\x00";
     let nonce = b"\x00\x00\x00\x00\x00\x00\x00\x00\x00\x00\x00\x00";
@@ -109,7 +109,7 @@ fn key_stream_4(rt: &impl Print) -> io::Result<()> {
     block(rt, b"key stream A.1 #4", key, 2, nonce, expected)
 }
 
-fn key_stream_5(rt: &impl Print) -> io::Result<()> {
+fn key_stream_5(rt: &impl Print) -> std::io::Result<()> {
     let key =
         b"\x00\x00\x00\x00\x00\x00\x00\x00\x00\x00\x00\x00\x00\x00\x00\x00\x00\x00\x00\x00\x00\x00\x00\x00\x00\x00\x00\x00\x00\x00\x00\x00";
     let nonce = b"\x00\x00\x00\x00\x00\x00\x00\x00\x00\x00\x00\x02";
@@ -119,7 +119,7 @@ fn key_stream_5(rt: &impl Print) -> io::Result<()> {
 }
 
 // The bytes of a file of data/, as many as `out` has room for.
-fn read(rt: &impl Files, path: &str, out: &mut [u8]) -> io::Result<()> {
+fn read(rt: &impl Files, path: &str, out: &mut [u8]) -> std::io::Result<()> {
     let mut file = fs::open(rt, path)?;
     read_full(&mut file, out)?;
     Ok(())
@@ -133,7 +133,7 @@ fn compare(
     start: usize,
     stream: &[u8],
     out: &mut [u8],
-) -> io::Result<()>
+) -> std::io::Result<()>
     requires { (length seed.now ≡ 32) × (start + length out.old ≤ 4096) }
 {
     seed_row::expand(seed, start, out);
@@ -153,14 +153,14 @@ fn expansion(
     stream_path: &str,
     start: usize,
     end: usize,
-) -> io::Result<()>
+) -> std::io::Result<()>
     requires { (start ≤ end) × (end ≤ 4096) }
 {
     let mut seed = [0u8; 32];
     read(rt, seed_path, &mut seed)?;
-    let mut stream = [0u8; 4096];
+    let mut stream = io::buffer();
     read(rt, stream_path, &mut stream)?;
-    let mut out = [0u8; 4096];
+    let mut out = io::buffer();
     compare(
         rt,
         name,
@@ -176,7 +176,7 @@ fn expansions(
     name: &[u8],
     seed_path: &str,
     stream_path: &str,
-) -> io::Result<()> {
+) -> std::io::Result<()> {
     expansion(rt, name, seed_path, stream_path, 0, 0)?;
     expansion(rt, name, seed_path, stream_path, 0, 1)?;
     expansion(rt, name, seed_path, stream_path, 0, 63)?;
@@ -193,13 +193,13 @@ fn expansions(
     expansion(rt, name, seed_path, stream_path, 4096, 4096)
 }
 
-fn document_01(rt: &impl Print, line: &[u8]) -> io::Result<()> {
+fn document_01(rt: &impl Print, line: &[u8]) -> std::io::Result<()> {
     rt.write_all(b"document 01, ")?;
     rt.write_all(line)
 }
 
 // A header number in groups of seven bits.
-fn number(rt: &impl Print, line: &[u8], bytes: &[u8], expected: u32) -> io::Result<()> {
+fn number(rt: &impl Print, line: &[u8], bytes: &[u8], expected: u32) -> std::io::Result<()> {
     document_01(rt, line)?;
     let start = Reader { at: 0 };
     match start.number(bytes) {
@@ -209,7 +209,13 @@ fn number(rt: &impl Print, line: &[u8], bytes: &[u8], expected: u32) -> io::Resu
 }
 
 // A number and a value that an operation answers.
-fn answer(rt: &impl Print, line: &[u8], got: Answer, refusal: u32, value: u32) -> io::Result<()> {
+fn answer(
+    rt: &impl Print,
+    line: &[u8],
+    got: Answer,
+    refusal: u32,
+    value: u32,
+) -> std::io::Result<()> {
     document_01(rt, line)?;
     if got.refusal == refusal {
         found(rt, got.value == value)
@@ -219,7 +225,7 @@ fn answer(rt: &impl Print, line: &[u8], got: Answer, refusal: u32, value: u32) -
 }
 
 // The largest board has 256 grid rows at the largest width.
-fn grid_rows(rt: &impl Print, line: &[u8], expected: usize) -> io::Result<()> {
+fn grid_rows(rt: &impl Print, line: &[u8], expected: usize) -> std::io::Result<()> {
     document_01(rt, line)?;
     let board = Board {
         players: 2,
@@ -234,14 +240,14 @@ fn grid_rows(rt: &impl Print, line: &[u8], expected: usize) -> io::Result<()> {
     }
 }
 
-fn numbers_of_document_01(rt: &impl Print) -> io::Result<()> {
+fn numbers_of_document_01(rt: &impl Print) -> std::io::Result<()> {
     number(rt, b"72 is 48", b"\x48", 72)?;
     number(rt, b"128 is 80 01", b"\x80\x01", 128)?;
     number(rt, b"65536 is 80 80 04", b"\x80\x80\x04", 65536)?;
     grid_rows(rt, b"65536 positions at width 256 have 256 grid rows", 256)
 }
 
-fn answers_of_document_01(rt: &impl Print) -> io::Result<()> {
+fn answers_of_document_01(rt: &impl Print) -> std::io::Result<()> {
     answer(
         rt,
         b"65536 positions at width 255 are refused by 5",
@@ -272,7 +278,7 @@ fn answers_of_document_01(rt: &impl Print) -> io::Result<()> {
     )
 }
 
-fn main(rt: HostRuntime) -> io::Result<()> {
+fn main(rt: HostRuntime) -> std::io::Result<()> {
     quarter_round(&rt)?;
     block_2_3_2(&rt)?;
     key_stream_1(&rt)?;
