@@ -1,8 +1,7 @@
 // The cases of the file one after another, those of one operation compared and counted. Assumes nothing.
-ghost use Rattle.std.specs.Prelude.{◌≤◌, ◌+◌, ◌<◌, ◌≡◌};
+ghost use Rattle.std.specs.Prelude.{◌≤◌, ◌+◌, ◌<◌, ◌≡◌, IfOk};
 
 use crate::calls::equal;
-use libc::STDOUT_FILENO;
 use reader::byte;
 use test_case_file::{
     FILE_HEAD_BYTES, HEAD_BYTES, OPERATION, REFUSAL, answer_length, count, further, inputs_kept,
@@ -54,10 +53,10 @@ pub struct Tally {
 }
 
 // Says that a case differs.
-fn report(case: u32) {
-    io::write_all(STDOUT_FILENO, b"DIFFERENT case ");
-    io::print_decimal(STDOUT_FILENO, case as u64);
-    io::write_all(STDOUT_FILENO, b"\n");
+fn report(rt: &impl Print, case: u32) -> std::io::Result<()> {
+    rt.write_all(b"DIFFERENT case ")?;
+    rt.print(case)?;
+    rt.write_all(b"\n")
 }
 
 fn one_if(counts: bool) -> u32
@@ -67,28 +66,35 @@ fn one_if(counts: bool) -> u32
 }
 
 // One case, if it is of the operation.
-fn compare_one(file: &[u8], place: Place, case: u32, operation: u8, output: &mut [u8]) -> Tally
-    ensures { (result.cases ≤ 1) × (result.refused ≤ 1) × (result.equal ≤ 1) }
+fn compare_one(
+    rt: &impl Print,
+    file: &[u8],
+    place: Place,
+    case: u32,
+    operation: u8,
+    output: &mut [u8],
+) -> std::io::Result<Tally>
+    ensures { IfOk result (λ tally. (tally.cases ≤ 1) × (tally.refused ≤ 1) × (tally.equal ≤ 1)) }
 {
     let head = part(file, place.head, HEAD_BYTES);
     if byte(head, OPERATION) != operation {
-        return Tally {
+        return Ok(Tally {
             cases: 0,
             refused: 0,
             equal: 0,
-        };
+        });
     }
     let inputs = part(file, place.inputs, inputs_length(head));
     let answer = part(file, place.answer, answer_length(head));
     let same = equal(head, inputs, answer, output);
     if !same {
-        report(case);
+        report(rt, case)?;
     }
-    Tally {
+    Ok(Tally {
         cases: 1,
         refused: one_if(byte(head, REFUSAL) != 0),
         equal: one_if(same),
-    }
+    })
 }
 
 // Two counts together.
@@ -104,7 +110,12 @@ fn together(tally: Tally, more: Tally) -> Tally
 }
 
 // All cases of one operation. `output` is scratch.
-pub fn compare(file: &[u8], operation: u8, output: &mut [u8]) -> Tally {
+pub fn compare(
+    rt: &impl Print,
+    file: &[u8],
+    operation: u8,
+    output: &mut [u8],
+) -> std::io::Result<Tally> {
     let count = count(file);
     let mut tally = Tally {
         cases: 0,
@@ -114,10 +125,10 @@ pub fn compare(file: &[u8], operation: u8, output: &mut [u8]) -> Tally {
     let mut place = place_at(file, FILE_HEAD_BYTES, FILE_HEAD_BYTES);
     let mut case: u32 = 0;
     while case < count {
-        let more = compare_one(file, place, case, operation, output);
+        let more = compare_one(rt, file, place, case, operation, output)?;
         tally = together(tally, more);
         place = next(file, place);
         case += 1;
     }
-    tally
+    Ok(tally)
 }

@@ -11,18 +11,19 @@ mod operations;
 
 ghost use Rattle.std.specs.Prelude.{◌≡◌, length};
 
-use libc::STDOUT_FILENO;
+use full_read::read_full;
 use operations::{
     CHECK_KEY, CHOOSE_WIDTH, DEAL, DEALING_PROGRAM, DRAW_CARD, EXPAND, HELD_SEED, JOIN_KEYS,
     JOIN_SHARES, JOINING_PROGRAM, KEY_LENGTH, OPEN_ALL, OPEN_ONE, SENSOR_POSITION, WRITE_PAGE,
 };
+use std::fs;
 
-fn text(words: &[u8]) {
-    io::write_all(STDOUT_FILENO, words);
+fn text(rt: &impl Print, words: &[u8]) -> std::io::Result<()> {
+    rt.write_all(words)
 }
 
-fn number(value: u32) {
-    io::print_decimal(STDOUT_FILENO, value as u64);
+fn number(rt: &impl Print, value: u32) -> std::io::Result<()> {
+    rt.print(value)
 }
 
 // As many zeros as the longest output of a case takes, and some more. The `ensures` gives only the length, as in `io::buffer`.
@@ -40,73 +41,68 @@ fn file_buffer() -> [u8; 2600000]
 }
 
 // One operation's line, behind those of its cases that differ.
-fn line(name: &[u8], operation: u8, file: &[u8]) {
+fn line(rt: &impl Print, name: &[u8], operation: u8, file: &[u8]) -> std::io::Result<()> {
     let mut output = output_buffer();
-    let tally = cases::compare(file, operation, &mut output);
-    text(name);
-    text(b": ");
-    number(tally.cases);
-    text(b" cases, ");
-    number(tally.refused);
-    text(b" refused, ");
-    number(tally.equal);
-    text(b" equal\n");
+    let tally = cases::compare(rt, file, operation, &mut output)?;
+    text(rt, name)?;
+    text(rt, b": ")?;
+    number(rt, tally.cases)?;
+    text(rt, b" cases, ")?;
+    number(rt, tally.refused)?;
+    text(rt, b" refused, ")?;
+    number(rt, tally.equal)?;
+    text(rt, b" equal\n")
 }
 
 // The file's own line: its length, its checksum (Adler-32 of RFC 1950), and how many cases it says it has.
-fn file_line(file: &[u8]) {
-    io::print_decimal(STDOUT_FILENO, file.len() as u64);
-    text(b" bytes, checksum ");
-    io::print_hex(STDOUT_FILENO, test_case_file::checksum(file) as u64, 8);
-    text(b", ");
-    number(test_case_file::count(file));
-    text(b" cases\n");
+fn file_line(rt: &impl Print, file: &[u8]) -> std::io::Result<()> {
+    rt.print(file.len())?;
+    text(rt, b" bytes, checksum ")?;
+    let checksum = test_case_file::checksum(file);
+    print!(rt; "{checksum:08x}")?;
+    text(rt, b", ")?;
+    number(rt, test_case_file::count(file))?;
+    text(rt, b" cases\n")
 }
 
 // Lengths, dealing and checking.
-fn key_lines(file: &[u8]) {
-    line(b"key length", KEY_LENGTH, file);
-    line(b"deal", DEAL, file);
-    line(b"check key", CHECK_KEY, file);
+fn key_lines(rt: &impl Print, file: &[u8]) -> std::io::Result<()> {
+    line(rt, b"key length", KEY_LENGTH, file)?;
+    line(rt, b"deal", DEAL, file)?;
+    line(rt, b"check key", CHECK_KEY, file)
 }
 
 // Opening, drawing and joining.
-fn share_lines(file: &[u8]) {
-    line(b"open one", OPEN_ONE, file);
-    line(b"open all", OPEN_ALL, file);
-    line(b"draw card", DRAW_CARD, file);
-    line(b"join shares", JOIN_SHARES, file);
-    line(b"join keys", JOIN_KEYS, file);
-    line(b"write page", WRITE_PAGE, file);
+fn share_lines(rt: &impl Print, file: &[u8]) -> std::io::Result<()> {
+    line(rt, b"open one", OPEN_ONE, file)?;
+    line(rt, b"open all", OPEN_ALL, file)?;
+    line(rt, b"draw card", DRAW_CARD, file)?;
+    line(rt, b"join shares", JOIN_SHARES, file)?;
+    line(rt, b"join keys", JOIN_KEYS, file)?;
+    line(rt, b"write page", WRITE_PAGE, file)
 }
 
 // The operations on seeds and on numbers alone.
-fn small_lines(file: &[u8]) {
-    line(b"held seed", HELD_SEED, file);
-    line(b"expand", EXPAND, file);
-    line(b"choose width", CHOOSE_WIDTH, file);
-    line(b"sensor position", SENSOR_POSITION, file);
+fn small_lines(rt: &impl Print, file: &[u8]) -> std::io::Result<()> {
+    line(rt, b"held seed", HELD_SEED, file)?;
+    line(rt, b"expand", EXPAND, file)?;
+    line(rt, b"choose width", CHOOSE_WIDTH, file)?;
+    line(rt, b"sensor position", SENSOR_POSITION, file)
 }
 
 // All lines.
-fn lines(file: &[u8]) {
-    file_line(file);
-    key_lines(file);
-    share_lines(file);
-    small_lines(file);
-    line(b"dealing program", DEALING_PROGRAM, file);
-    line(b"joining program", JOINING_PROGRAM, file);
+fn lines(rt: &impl Print, file: &[u8]) -> std::io::Result<()> {
+    file_line(rt, file)?;
+    key_lines(rt, file)?;
+    share_lines(rt, file)?;
+    small_lines(rt, file)?;
+    line(rt, b"dealing program", DEALING_PROGRAM, file)?;
+    line(rt, b"joining program", JOINING_PROGRAM, file)
 }
 
-fn main() {
-    let path = b"cases.bin";
-    let opened = os::open_read(path);
-    if opened < 0 {
-        os::fail(path);
-        return;
-    }
+fn main(rt: HostRuntime) -> std::io::Result<()> {
+    let mut opened = fs::open(&rt, "cases.bin")?;
     let mut file = file_buffer();
-    let length = io::read_full(opened, &mut file);
-    libc::close(opened);
-    lines(&file[..length]);
+    let length = read_full(&mut opened, &mut file)?;
+    lines(&rt, &file[..length])
 }

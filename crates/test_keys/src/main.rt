@@ -7,18 +7,17 @@
 
 ghost use Rattle.std.specs.Prelude.{◌<◌};
 
-use io::print_decimal;
 use key_check::check::check_key;
 use key_check::held::held_seed_place;
 use key_header::KeyCheck;
-use libc::STDOUT_FILENO;
+use std::io;
 
-fn text(words: &[u8]) {
-    io::write_all(STDOUT_FILENO, words);
+fn text(rt: &impl Print, words: &[u8]) -> io::Result<()> {
+    rt.write_all(words)
 }
 
-fn number(value: usize) {
-    print_decimal(STDOUT_FILENO, value as u64);
+fn number(rt: &impl Print, value: usize) -> io::Result<()> {
+    rt.print(value)
 }
 
 // The number that refuses a key, or 0.
@@ -38,67 +37,67 @@ fn answer_with(key: [u8; 79], at: usize, value: u8) -> u32
 }
 
 // " LOW-HIGH answer", behind a comma where it is not the line's first.
-fn print_run(low: usize, high: usize, refusal: u32) {
+fn print_run(rt: &impl Print, low: usize, high: usize, refusal: u32) -> io::Result<()> {
     if 0 < low {
-        text(b",");
+        text(rt, b",")?;
     }
-    text(b" ");
-    number(low);
+    text(rt, b" ")?;
+    number(rt, low)?;
     if low < high {
-        text(b"-");
-        number(high);
+        text(rt, b"-")?;
+        number(rt, high)?;
     }
     if refusal == 0 {
-        text(b" accepted");
+        text(rt, b" accepted")
     } else {
-        text(b" refused ");
-        number(refusal as usize);
+        text(rt, b" refused ")?;
+        number(rt, refusal as usize)
     }
 }
 
-fn begin_line(at: usize) {
-    number(at);
-    text(b":");
+fn begin_line(rt: &impl Print, at: usize) -> io::Result<()> {
+    number(rt, at)?;
+    text(rt, b":")
 }
 
-fn end_line() {
-    text(b"\n");
+fn end_line(rt: &impl Print) -> io::Result<()> {
+    text(rt, b"\n")
 }
 
-fn print_place(key: [u8; 79], at: usize)
+fn print_place(rt: &impl Print, key: [u8; 79], at: usize) -> io::Result<()>
     requires { at < 79 }
 {
-    begin_line(at);
+    begin_line(rt, at)?;
     let mut low: usize = 0;
     let mut run = answer_with(key, at, 0);
     let mut value: usize = 1;
     while value < 256 {
         let next = answer_with(key, at, value as u8);
         if next != run {
-            print_run(low, value - 1, run);
+            print_run(rt, low, value - 1, run)?;
             low = value;
             run = next;
         }
         value += 1;
     }
-    print_run(low, 255, run);
-    end_line();
+    print_run(rt, low, 255, run)?;
+    end_line(rt)
 }
 
-fn print_held(key: [u8; 79], grid_row: u32, column: u32) {
-    text(b"grid row ");
-    number(grid_row as usize);
-    text(b" column ");
-    number(column as usize);
-    text(b": ");
-    number(held_seed_place(&key, grid_row, column));
-    text(b"\n");
+fn print_held(rt: &impl Print, key: [u8; 79], grid_row: u32, column: u32) -> io::Result<()> {
+    text(rt, b"grid row ")?;
+    number(rt, grid_row as usize)?;
+    text(rt, b" column ")?;
+    number(rt, column as usize)?;
+    text(rt, b": ")?;
+    number(rt, held_seed_place(&key, grid_row, column))?;
+    text(rt, b"\n")
 }
 
-fn print_grid_row(key: [u8; 79], grid_row: u32) {
-    print_held(key, grid_row, 0);
-    print_held(key, grid_row, 1);
-    print_held(key, grid_row, 2);
+fn print_grid_row(rt: &impl Print, key: [u8; 79], grid_row: u32) -> io::Result<()> {
+    print_held(rt, key, grid_row, 0)?;
+    print_held(rt, key, grid_row, 1)?;
+    print_held(rt, key, grid_row, 2)
 }
 
 // The header, the two bytes of marks, and 7 for every byte of the seeds and words.
@@ -114,14 +113,14 @@ fn sample() -> [u8; 79] {
     key
 }
 
-fn main() {
+fn main(rt: HostRuntime) -> io::Result<()> {
     let key = sample();
     let mut at: usize = 0;
     while at < 79 {
-        print_place(key, at);
+        print_place(&rt, key, at)?;
         at += 1;
     }
-    print_grid_row(key, 0);
-    print_grid_row(key, 1);
-    print_grid_row(key, 2);
+    print_grid_row(&rt, key, 0)?;
+    print_grid_row(&rt, key, 1)?;
+    print_grid_row(&rt, key, 2)
 }

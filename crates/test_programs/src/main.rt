@@ -4,9 +4,11 @@
 // program runs, and a line says whether what is written is equal to the file, byte for byte. Assumes nothing.
 #![tactic(auto)]
 
-ghost use Rattle.std.specs.Prelude.{◌≡◌, ◌≤◌, ◌<◌, length};
+ghost use Rattle.std.specs.Prelude.{◌≡◌, ◌≤◌, ◌<◌, length, IfOk};
 
-use libc::STDOUT_FILENO;
+use full_read::read_full;
+use std::rt::Files;
+use std::{fs, str};
 
 // As many zeros as the joining program's output, and one more, so that a longer file is known. The `ensures` gives only the length, as in
 // `io::buffer`.
@@ -27,42 +29,37 @@ fn input_buffer() -> [u8; 200000]
 }
 
 // Whether a file of data/ has these bytes and no others.
-fn stored(bytes: &[u8], path: &[u8]) -> bool {
-    let file = os::open_read(path);
-    if file < 0 {
-        os::fail(path);
-        return false;
-    }
+fn stored(rt: &impl Files, bytes: &[u8], path: &str) -> std::io::Result<bool> {
+    let mut file = fs::open(rt, path)?;
     let mut expected = file_buffer();
-    let length = io::read_full(file, &mut expected);
-    libc::close(file);
-    check::same(bytes, &expected[..length])
+    let length = read_full(&mut file, &mut expected)?;
+    Ok(check::same(bytes, &expected[..length]))
 }
 
 // Whether the dealing program writes the file.
-fn deals(input: &[u8], path: &[u8]) -> bool {
+fn deals(rt: &impl Files, input: &[u8], path: &str) -> std::io::Result<bool> {
     let mut output = io::large_buffer();
     let written = program_deal::dealing_program(input, &mut output);
-    stored(&output[..written], path)
+    stored(rt, &output[..written], path)
 }
 
 // Whether the joining program writes the file.
-fn joins(input: &[u8], path: &[u8]) -> bool {
+fn joins(rt: &impl Files, input: &[u8], path: &str) -> std::io::Result<bool> {
     let mut table = io::large_buffer();
     let mut output = program_output::text_buffer();
     let written = program_join::joining_program(input, &mut table, &mut output);
-    stored(&output[..written], path)
+    stored(rt, &output[..written], path)
 }
 
 // Whether the program of this name writes a file when it reads these bytes.
-fn writes(program: &[u8], input: &[u8], path: &[u8]) -> bool {
+fn writes(rt: &impl Files, program: &[u8], input: &[u8], path: &str) -> std::io::Result<bool> {
     if check::same(program, b"deal") {
-        return deals(input, path);
+        return deals(rt, input, path);
     }
     if check::same(program, b"join") {
-        return joins(input, path);
+        return joins(rt, input, path);
     }
-    false
+    Ok(false)
 }
 
 // What a decimal digit stands for; more than any length where the byte is none.
@@ -95,26 +92,32 @@ fn length_in(word: &[u8]) -> usize
 }
 
 // Whether the program of this name writes the one file when it reads so many bytes, the other file's and then zeros.
-fn equal(program: &[u8], input_path: &[u8], count: usize, output_path: &[u8]) -> bool
+fn equal(
+    rt: &impl Files,
+    program: &[u8],
+    input_path: &str,
+    count: usize,
+    output_path: &str,
+) -> std::io::Result<bool>
     requires { count ≤ 200000 }
 {
-    let file = os::open_read(input_path);
-    if file < 0 {
-        os::fail(input_path);
-        return false;
-    }
+    let mut file = fs::open(rt, input_path)?;
     let mut input = input_buffer();
-    io::read_full(file, &mut input);
-    libc::close(file);
-    writes(program, &input[..count], output_path)
+    read_full(&mut file, &mut input)?;
+    writes(rt, program, &input[..count], output_path)
+}
+
+// The file's name that a word is; of a word that is no text, a name that no file has.
+fn path_in(word: &[u8]) -> &str {
+    str::from_utf8(word).unwrap_or("")
 }
 
 // The end of a line: what a comparison has found.
-fn found(equal: bool) {
+fn found(rt: &impl Print, equal: bool) -> std::io::Result<()> {
     if equal {
-        io::write_all(STDOUT_FILENO, b": equal\n");
+        rt.write_all(b": equal\n")
     } else {
-        io::write_all(STDOUT_FILENO, b": DIFFERENT\n");
+        rt.write_all(b": DIFFERENT\n")
     }
 }
 
@@ -145,9 +148,9 @@ fn next_word(list: &[u8], end: usize) -> usize
 }
 
 // Runs the case of the line that begins at a place, and answers where the next one begins.
-fn run_line(list: &[u8], at: usize) -> usize
+fn run_line(rt: &(impl Files + Print), list: &[u8], at: usize) -> std::io::Result<usize>
     requires { at < length list.now }
-    ensures { at < result }
+    ensures { IfOk result (λ next. at < next) }
 {
     let program_end = word_end(list, at);
     let input = next_word(list, program_end);
@@ -156,32 +159,30 @@ fn run_line(list: &[u8], at: usize) -> usize
     let length_end = word_end(list, length);
     let output = next_word(list, length_end);
     let output_end = word_end(list, output);
-    io::write_all(STDOUT_FILENO, &list[at..length_end]);
-    found(equal(
+    rt.write_all(&list[at..length_end])?;
+    let same = equal(
+        rt,
         &list[at..program_end],
-        &list[input..input_end],
+        path_in(&list[input..input_end]),
         length_in(&list[length..length_end]),
-        &list[output..output_end],
-    ));
-    output_end + 1
+        path_in(&list[output..output_end]),
+    )?;
+    found(rt, same)?;
+    Ok(output_end + 1)
 }
 
 // Runs the cases of the list, a line after another.
-fn run(list: &[u8]) {
+fn run(rt: &(impl Files + Print), list: &[u8]) -> std::io::Result<()> {
     let mut at: usize = 0;
     while at < list.len() {
-        at = run_line(list, at);
+        at = run_line(rt, list, at)?;
     }
+    Ok(())
 }
 
-fn main() {
-    let file = os::open_read(b"cases");
-    if file < 0 {
-        os::fail(b"cases");
-        return;
-    }
+fn main(rt: HostRuntime) -> std::io::Result<()> {
+    let mut file = fs::open(&rt, "cases")?;
     let mut list = io::large_buffer();
-    let length = io::read_full(file, &mut list);
-    libc::close(file);
-    run(&list[..length]);
+    let length = read_full(&mut file, &mut list)?;
+    run(&rt, &list[..length])
 }

@@ -1,0 +1,11 @@
+-- No more is written than the output has room for.
+use Rattle.std.proofs.Common.{sym}
+use Rattle.std.proofs.lemmas.List.{length-take-le}
+use Rattle.program_join.proofs.Joinings.{joins_within}
+use Rattle.test_programs.proofs.joins.Goals as goal
+
+pub slice_bounds-output-end : goal.slice_bounds-output-end
+slice_bounds-output-end g c = joins_within _ _ _ _ _ _ c.joining_program-written.ensures
+
+pub slice_bounds-stored-end : goal.slice_bounds-stored-end
+slice_bounds-stored-end g c = sym (length-take-le _ _ (joins_within _ _ _ _ _ _ c.joining_program-written.ensures))
