@@ -1,5 +1,3 @@
--- `deal_marks::few_marks` meets its contract. The loop goes down from the last mark; its invariant: the byte packs the marks from the place on.
--- Assumes nothing.
 use mathlib.Core.Path.{◌≡◌, refl, ◌∙◌}
 use mathlib.Core.Bool.{Bool, true, false, cond}
 use mathlib.Core.List.{List}
@@ -11,11 +9,10 @@ use lib.ListN.{drop, get_or}
 use Rattle.keys.specs.Keys.{packed_from}
 use Rattle.deal_marks.specs.Marks.{mark_digit}
 use Rattle.deal_marks.proofs.PackedMarks.{packed_room, packed_next}
-use Rattle.deal_marks.proofs.few_marks.Statement.{statement}
-use Rattle.deal_marks.proofs.few_marks.Tie as tie
 use Rattle.deal_marks.proofs.few_marks.Reads as reads
 use Rattle.deal_marks.proofs.few_marks.Lts as lts
 use Rattle.deal_marks.proofs.mark_digit.Reads as mark-digit-reads
+use Rattle.deal_marks.proofs.few_marks.Goals as goal
 
 -- a digit is 0 or 1
 digit_small : {digit : ℕ} (column player : ℕ) → digit ≡ mark_digit column player → digit ≤ 1
@@ -34,65 +31,43 @@ turn byte place player from digit array low high so_far is =
     let here : from + place ≡ suc (from + (place - 1)) = omega arith in
     rw (left, so_far, is, here) (packed_next (8 - place) player (from + (place - 1)) array)
 
-abbrev invariant-loop : tie.invariant-loop
-invariant-loop array from player byte₀ place₀ byte place = (place ≤ 8) × (byte ≡ packed_from (8 - place) 0 player (drop (from + place) array))
-
-abbrev decreases-loop : tie.decreases-loop
-decreases-loop array from player byte₀ place₀ byte place = place
-
-loop-holds : tie.Need-loop-init invariant-loop decreases-loop
+pub loop-place-init : goal.loop-place-init
 unfolding packed_from
-loop-holds c = (omega arith, refl)
+loop-place-init c = (omega arith, refl)
 
-sub-place : tie.Need-overflow-sub-place invariant-loop decreases-loop
-sub-place c = omega arith
+pub overflow_sub-place : goal.overflow_sub-place
+overflow_sub-place c = omega arith
 
-mul-byte : tie.Need-overflow-mul-byte invariant-loop decreases-loop
-mul-byte c =
-    let a = c.before.before.before.args in
-    let l = c.before.loop in
+pub overflow_mul-byte : goal.overflow_mul-byte
+overflow_mul-byte c =
+    let a = c.args in
+    let l = c.loop-place in
     omega (arith, packed_room l.place a.player (drop (a.from + l.place) a.array.now) (omega arith))
 
-add-mark-digit : tie.Need-overflow-add-mark-digit invariant-loop decreases-loop
-add-mark-digit c = omega arith
+pub overflow_add-from : goal.overflow_add-from
+overflow_add-from c = omega arith
 
-mark-digit-requires : tie.Need-mark-digit-requires invariant-loop decreases-loop
-mark-digit-requires c κs = omega arith
+pub mark_digit-requires : goal.mark_digit-requires
+mark_digit-requires c = omega arith
 
-add-byte : tie.Need-overflow-add-byte invariant-loop decreases-loop
-add-byte c =
-    let a = c.before.before.before.before.args in
-    let l = c.before.before.loop in
+pub overflow_add-byte : goal.overflow_add-byte
+overflow_add-byte c =
+    let a = c.args in
+    let l = c.loop-place in
     omega (arith, packed_room l.place a.player (drop (a.from + l.place) a.array.now) (omega arith), digit_small _ _ c.mark_digit.ensures)
 
-loop-less : tie.Need-loop-smaller invariant-loop decreases-loop
-loop-less c = omega arith
+pub loop-place-smaller : goal.loop-place-smaller
+loop-place-smaller c = omega arith
 
-loop-again : tie.Need-loop-preserved invariant-loop decreases-loop
-loop-again c =
-    let a = c.before.before.before.before.args in
-    let l = c.before.before.loop in
+pub loop-place-preserved : goal.loop-place-preserved
+loop-place-preserved c =
+    let a = c.args in
+    let l = c.loop-place in
     (omega arith, turn l.byte l.place a.player a.from c.mark_digit.result a.array.now (omega arith) l.invariant.0 l.invariant.1 c.mark_digit.ensures)
 
-returns : tie.Need-returns invariant-loop decreases-loop
+pub returns : goal.returns
 returns c =
-    let a = c.before.before.before.args in
-    let l = c.before.loop in
+    let a = c.args in
+    let l = c.loop-place in
     let none : l.place ≡ 0 = omega arith in
     l.invariant.1 ∙ rw (none, add-zero a.from)
-
-pub few-marks-spec : {M : Type 1} → statement M
-few-marks-spec =
-    tie.close
-    (tie.spec
-    invariant-loop
-    decreases-loop
-    loop-holds
-    sub-place
-    mul-byte
-    add-mark-digit
-    mark-digit-requires
-    add-byte
-    loop-less
-    loop-again
-    returns)
