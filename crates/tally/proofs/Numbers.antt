@@ -88,5 +88,5 @@ module _ (t : Tally) (b : Board) (i : ℕ) where
   takes_own p i_is n w = sym (same_but_bytes p i_is n) ∙ eq-eqb b.w t.value_bytes w
 
   -- a test that the code makes by a call: the key's table has the tally's length
-  pub taken_long : (fits : Bool) → fits ≡ takes t b i → not fits ≡ false → t.positions * t.value_bytes ≡ b.n * b.w
+  pub taken_long : (fits : Bool) → fits ≡ takes t b i → fits ≡ true → t.positions * t.value_bytes ≡ b.n * b.w
   taken_long fits e own = let same = taken (passed_test e own) in rw (same.2, same.3)
