@@ -8,9 +8,9 @@ use Rattle.call_answers.specs.Answers.{joined_shares}
 use Rattle.join_shares_call.proofs.Joining.{inside, part_whole, joined_none, share_more, joined_all}
 use Rattle.join_shares_call.proofs.joined.Given as goal
 
-abbrev pub invariant-loop-left : goal.invariant-loop-left
-invariant-loop-left l =
-    (l.left ≤ l.count) × (l.end ≡ l.left * l.share) × (length l.out ≡ l.share) × (l.out ≡ joined_shares (l.count - l.left) l.share (drop l.end l.shares)) × (length l.shares ≡ l.count * l.share)
+abbrev pub invariant-loop-player : goal.invariant-loop-player
+invariant-loop-player l =
+    (l.player ≤ l.players) × (l.end ≡ l.player * l.share) × (length l.out ≡ l.share) × (l.out ≡ joined_shares (l.players - l.player) l.share (drop l.end l.shares)) × (length l.shares ≡ l.players * l.share)
 
-abbrev pub decreases-loop-left : goal.decreases-loop-left
-decreases-loop-left l = l.left
+abbrev pub decreases-loop-player : goal.decreases-loop-player
+decreases-loop-player l = l.player
