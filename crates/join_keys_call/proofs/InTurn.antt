@@ -6,7 +6,7 @@ use mathlib.Core.List.{List, ◌++◌}
 use Prim.Native.Nat.{ℕ, zero, suc, ◌+◌, ◌*◌, ◌-◌, ◌≤◌, ◌<◌}
 use native.Mathlib.Nat.{mul-le-mul_right}
 use native.Mathlib.Omega.{arith}
-use borrow.Author.Tests.{eq-eqb, ne_eqb, le-ltb, lt-ltb, eqb-true, ltb-false, not-true, not-false}
+use borrow.Author.Tests.{eq-eqb, ne_eqb, le-ltb, lt-ltb, eqb-true, ltb-false, not-false}
 use lib.Dec.{eqb, ltb}
 use lib.ListN.{length, take, drop, length-drop}
 use lib.Seq.{drop-drop, length-take-le}
@@ -83,18 +83,18 @@ module _ (b : Board) (i : ℕ) (ks : List ℕ) where
           let says = accepted_says ks h _ read in
           next_fits (head_refusal (head_in ks)) _ says.none ∙ rw (says.board_is, says.player_is, says.rest_is, ← test)
 
-      pub place_other : not same ≡ true → 15 ≡ place_refusal b i ks
-      place_other z = sym (chain ∙ rw (not-true same z))
+      pub place_other : same ≡ false → 15 ≡ place_refusal b i ks
+      place_other z = sym (chain ∙ rw z)
 
-      module _ (own : not same ≡ false) (part : List ℕ) (cut : part ≡ drop h.end ks) (marks : Bool) (seen : marks ≡ marks_good (grid_rows b) b part) where
+      module _ (own : same ≡ true) (part : List ℕ) (cut : part ≡ drop h.end ks) (marks : Bool) (seen : marks ≡ marks_good (grid_rows b) b part) where
         chain_marks : place_refusal b i ks ≡ cond marks 0 13
-        chain_marks = chain ∙ rw (not-false same own, ← cut, ← seen)
+        chain_marks = chain ∙ rw (own, ← cut, ← seen)
 
-        pub place_marks : not marks ≡ true → 13 ≡ place_refusal b i ks
-        place_marks z = sym (chain_marks ∙ rw (not-true marks z))
+        pub place_marks : marks ≡ false → 13 ≡ place_refusal b i ks
+        place_marks z = sym (chain_marks ∙ rw z)
 
-        pub place_none : not marks ≡ false → 0 ≡ place_refusal b i ks
-        place_none z = sym (chain_marks ∙ rw (not-false marks z))
+        pub place_none : marks ≡ true → 0 ≡ place_refusal b i ks
+        place_none z = sym (chain_marks ∙ rw z)
 
 -- EACH KEY IN TURN
 
