@@ -5,6 +5,7 @@
 
 ghost use Rattle.std.specs.Prelude.{◌≡◌};
 ghost use Rattle.grid.specs.Code.{board_of};
+ghost use Rattle.tally.specs.Runs.{TallyHolds, AnyOrder, TwiceIsNone, RefusedInBetween};
 ghost use Rattle.tally.specs.Tallies.{tally_refusal, takes};
 
 use call_answers::refusals::{ACCEPTED, REFUSED_PLAYER, REFUSED_ROOM};
@@ -59,3 +60,11 @@ impl Tally {
         board.value_bytes == self.value_bytes
     }
 }
+
+// What runs of the calls leave, asked for by a contract.
+pub fn kept()
+    ensures holds { TallyHolds }
+    ensures order { AnyOrder }
+    ensures twice { TwiceIsNone }
+    ensures refused { RefusedInBetween }
+{}
