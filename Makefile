@@ -1,4 +1,5 @@
-# The C library for board makers and app makers: headers, archive and a pkg-config file.
+# The C library for board makers and app makers: headers, archive and a pkg-config file. The archive is for every x86-64 processor, where rt's own
+# choice would be x86-64-v2.
 #   make                          proves the library and builds the archive with rt, where it is absent or older than a source
 #   make install PREFIX=/usr      installs; DESTDIR is put in front of every path, as packages want it
 #   make uninstall PREFIX=/usr    removes what install put there
@@ -18,8 +19,9 @@ SOURCES = crates.txt $(wildcard crates/*/src/*.rt crates/*/specs/*.antt)
 all: $(ARCHIVE)
 
 $(ARCHIVE): $(SOURCES)
-	$(RT) staticlib nosingginger_c
-	touch $@
+	cd crates/nosingginger_c && $(RT) lib --cpu x86-64
+	mkdir -p target/staticlib
+	cp crates/nosingginger_c/out/libnosingginger_c.a $@
 
 target/nosingginger.pc: Makefile FORCE
 	mkdir -p target

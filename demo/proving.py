@@ -1,10 +1,11 @@
 """How far the proving is, in words: a function from the crates that are proved and the seconds that passed to "proving 12 of 38, about
-3 minutes left". Assumes that crates.txt names for each crate those that it uses, and that rt says of each crate that it is proved."""
+3 minutes left". Assumes that crates.txt names for each crate those that it uses, and that rt builds these first, in the order of its line, and
+says which crate it begins and that this is proved. Of a crate that was proved before it says nothing."""
 import re
 
 GOALS = ("dealer", "joiner", "nosingginger_c")     # the two programs and the C library: what the hunt runs
 
-# Seconds that rt took for each crate in one run on two processors. Only how they compare with each other matters, and that little: a crate
+# Seconds that rt of an older kit took for each crate in one run on two processors. Only how they compare with each other matters, and that little: a crate
 # that is not named here counts as the usual one. Beside another run (tests/hunt/second-run.txt, 282 seconds) the time left was wrong by 23
 # seconds on average; by the sizes of the crates' files it would have been by 77, and with all crates alike by 49.
 SECONDS = {
@@ -23,19 +24,22 @@ BELIEVED = 60
 
 
 def crates_needed(listed, goals=GOALS):
-    """The crates that the goals stand on, themselves among them, by the text of crates.txt, in its order."""
-    below = {}
+    """The crates that the goals stand on, themselves among them, by the text of crates.txt, in the order in which rt comes to them."""
+    below, needed = {}, []
     for line in listed.splitlines():
-        name, colon, used = line.partition(":")
-        if colon and not line.startswith("#"):
-            below[name.strip()] = used.split()
-    needed, waiting = set(), list(goals)
-    while waiting:
-        name = waiting.pop()
+        name, colon, used = line.partition("#")[0].partition(":")
+        if colon:
+            below[name.split()[0]] = used.split()   # a word behind the name says what kind of crate it is
+
+    def need(name):
         if name in below and name not in needed:    # what is not listed comes with the kit
-            needed.add(name)
-            waiting += below[name]
-    return [name for name in below if name in needed]
+            for other in below[name]:
+                need(other)
+            needed.append(name)
+
+    for goal in goals:
+        need(goal)
+    return needed
 
 
 def work(names):
@@ -67,7 +71,7 @@ class Progress:
     """Follows what rt writes. A crate that was proved in an earlier run is neither done nor left: it is not counted."""
 
     def __init__(self, needed):
-        self.done, self.left = [], list(needed)
+        self.done, self.left, self.begun = [], list(needed), None
 
     def proved(self, name):
         if name in self.left:
@@ -75,12 +79,13 @@ class Progress:
             self.done.append(name)
 
     def read(self, line):
-        """Takes one line of rt's. Answers whether a crate was proved by it."""
-        said = re.match(r"rt: (\w+) proved \((\d+ s|unchanged)", line)
-        if not said or said.group(1) not in self.left:
+        """Takes one line of rt's. Answers whether a crate was proved by it. What rt has come past without a word was proved before."""
+        begins = re.match(r"rt: chose --jobs \d+ for (\w+)$", line.rstrip())
+        if begins:
+            self.begun = begins.group(1)
+            if self.begun in self.left:
+                del self.left[:self.left.index(self.begun)]
+        if not line.startswith("logic=proved ") or self.begun not in self.left:
             return False
-        if said.group(2) == "unchanged":
-            self.left.remove(said.group(1))
-            return False
-        self.proved(said.group(1))
+        self.proved(self.begun)
         return True

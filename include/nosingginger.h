@@ -120,9 +120,9 @@ extern "C" {
 #define NSG_REFUSED_GRID_ROWS 5u      /* the board has more than 256 grid rows at this width */
 #define NSG_REFUSED_POINT 6u          /* the piece's point is none of the board's positions */
 #define NSG_REFUSED_LENT 7u           /* an input does not have the length that the numbers ask for */
-#define NSG_REFUSED_ROOM 9u           /* what is lent to be written, or a tally's table, is too short */
+#define NSG_REFUSED_ROOM 9u           /* the output is too short for what is to be written */
 #define NSG_REFUSED_NUMBER 10u        /* a key's header has a number that is cut short, over three groups or not in its shortest form */
-#define NSG_REFUSED_PLAYER 11u        /* a player is not below the number of players */
+#define NSG_REFUSED_PLAYER 11u        /* a key's player is not below its number of players */
 #define NSG_REFUSED_LENGTH 12u        /* a key, or all keys together, do not have the length that the header asks for */
 #define NSG_REFUSED_MARKS 13u         /* a key marks another number of columns than half in some grid row, or has a spare bit set */
 #define NSG_REFUSED_POSITION 14u      /* the position is none of the board's */

@@ -51,9 +51,9 @@ static inline const char *nsg_refusal_words(uint32_t number)
     case NSG_REFUSED_GRID_ROWS: return "the board has more than 256 grid rows at this width";
     case NSG_REFUSED_POINT: return "the piece's point is none of the board's positions";
     case NSG_REFUSED_LENT: return "an input does not have the length that the numbers ask for";
-    case NSG_REFUSED_ROOM: return "what is lent to be written, or a tally's table, is too short";
+    case NSG_REFUSED_ROOM: return "the output is too short for what is to be written";
     case NSG_REFUSED_NUMBER: return "a key's header has a number that is cut short, over three groups or not in its shortest form";
-    case NSG_REFUSED_PLAYER: return "a player is not below the number of players";
+    case NSG_REFUSED_PLAYER: return "a key's player is not below its number of players";
     case NSG_REFUSED_LENGTH: return "a key, or all keys together, do not have the length that the header asks for";
     case NSG_REFUSED_MARKS: return "a key marks another number of columns than half in some grid row, or has a spare bit set";
     case NSG_REFUSED_POSITION: return "the position is none of the board's";

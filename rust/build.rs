@@ -16,7 +16,7 @@ fn main() {
     println!("cargo:rerun-if-changed={}", archive.display());
     if !archive.is_file() {
         eprintln!("{} is not there.", archive.display());
-        eprintln!("Run `rt staticlib nosingginger_c` in the repository, or set {VARIABLE} to the folder that has {ARCHIVE}.");
+        eprintln!("Run `make` in the repository, or set {VARIABLE} to the folder that has {ARCHIVE}.");
         exit(1);
     }
     println!("cargo:rustc-link-search=native={}", folder.display());

@@ -1356,8 +1356,9 @@ function runOf(numbers, keys, out) {
 const [HELD_SEED, WRITE_PAGE, TALLY_ADD, REFUSED_ROOM] = [8, 15, 17, 9];
 const WITHOUT_OUTPUT = [HELD_SEED, WRITE_PAGE];
 
-test('the second implementation\u2019s answers, all cases of the operations', () => {
-    const file = readFileSync(new URL('crates/test_compare/data/cases.bin', root));
+/** Makes the calls of a file of cases, and holds them to its answers. Gives each operation's numbers that were met. */
+function comparedCases(name) {
+    const file = readFileSync(new URL(name, root));
     assert.equal(file.toString('latin1', 0, 8), 'NGCASES1');
     const bytes = new Uint8Array(file);
     const view = new DataView(bytes.buffer);
@@ -1399,6 +1400,14 @@ test('the second implementation\u2019s answers, all cases of the operations', ()
         tried.set(operation, (tried.get(operation) ?? new Set()).add(number));
     }
     assert.equal(at, length);
+    return tried;
+}
+
+test('the second implementation\u2019s answers, all cases of the operations', () => {
+    const tried = comparedCases('crates/test_compare/data/cases.bin');
+    for (const [operation, numbers] of comparedCases('reference/tallies.bin')) {
+        tried.set(operation, new Set([...(tried.get(operation) ?? []), ...numbers]));
+    }
     assert.deepEqual([...tried.keys()].sort((a, b) => a - b), Object.keys(OPERATIONS).map(Number));
     const numbers = new Set([...tried.values()].flatMap((set) => [...set]));
     assert.deepEqual([...numbers].sort((a, b) => a - b), [0, ...REFUSALS.map(({ number }) => number)]);

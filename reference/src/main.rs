@@ -1,7 +1,7 @@
 //! The second implementation from the command line.
 
 use reference::cases;
-use reference::data;
+use reference::data::{self, Case};
 use reference::key::check_key;
 use reference::programs::{dealing_program, joining_program, MOST_BYTES};
 use std::fs;
@@ -28,6 +28,9 @@ usage: reference COMMAND
                     neighbouring runs have different answers.
   make-data DIR     writes DIR/cases.bin, the comparison's data in the format of FORMAT.md;
                     the same bytes each time
+  make-tally-data DIR
+                    writes DIR/tallies.bin, the comparison's data on tallies in the same format;
+                    the same bytes each time
   make-program-cases DIR
                     writes the files of the programs' cases into DIR, with their list, DIR/cases:
                     a line for each case, with the program, the file that it reads, how many
@@ -46,7 +49,10 @@ fn main() -> ExitCode {
         ["deal"] => program(dealing_program),
         ["join"] => program(joining_program),
         ["one-byte-changes"] => one_byte_changes(),
-        ["make-data", folder] => make_data(Path::new(folder)),
+        ["make-data", folder] => make_data(Path::new(folder), "cases.bin", &cases::all()),
+        ["make-tally-data", folder] => {
+            make_data(Path::new(folder), "tallies.bin", &cases::of_tallies())
+        }
         ["make-program-cases", folder] => make_program_cases(Path::new(folder)),
         ["--help"] => write_out(HELP.as_bytes()),
         _ => {
@@ -105,11 +111,10 @@ fn runs_at(key: &mut [u8], position: usize) -> Vec<(u8, u8, u32)> {
     runs
 }
 
-fn make_data(folder: &Path) -> io::Result<()> {
-    let cases = cases::all();
-    let file = data::write_file(&cases);
+fn make_data(folder: &Path, name: &str, cases: &[Case]) -> io::Result<()> {
+    let file = data::write_file(cases);
     fs::create_dir_all(folder)?;
-    fs::write(folder.join("cases.bin"), &file)?;
+    fs::write(folder.join(name), &file)?;
     println!("{} cases, {} bytes", cases.len(), file.len());
     Ok(())
 }

@@ -3,20 +3,76 @@
 //! one.
 
 use reference::board::Board;
-use reference::cases::all;
+use reference::cases::of_tallies;
 use reference::data::{
-    Case, JOIN_SHARES, TALLY_ADD, TALLY_LOOK_UP, TALLY_MAKE, TALLY_RUN, TALLY_TOTAL,
+    read_file, write_file, Case, JOIN_SHARES, TALLY_ADD, TALLY_LOOK_UP, TALLY_MAKE, TALLY_RUN,
+    TALLY_TOTAL,
 };
 use reference::join::join_keys;
 use reference::key::{check_key, Header};
 use reference::open::open_all;
 use std::collections::{BTreeMap, BTreeSet};
+use std::fs;
 
 /// The operations on one tally.
 const OPERATIONS: [u8; 4] = [TALLY_MAKE, TALLY_ADD, TALLY_LOOK_UP, TALLY_TOTAL];
 
+/// Every number that each operation of the file can give, 0 for acceptance.
+const ANSWERS: [(u8, &[u32]); 6] = [
+    (JOIN_SHARES, &[0]),
+    (TALLY_MAKE, &[0, 1, 2, 4, 9, 11]),
+    (TALLY_ADD, &[0, 1, 2, 3, 4, 5, 9, 10, 11, 12, 13, 23]),
+    (TALLY_LOOK_UP, &[0, 1, 2, 4, 9, 11, 14]),
+    (TALLY_TOTAL, &[0, 1, 2, 4, 9, 11]),
+    (TALLY_RUN, &[0, 1, 2, 4, 9, 11]),
+];
+
+/// The file's fingerprint, FNV-1a on 64 bits, fixed so that every machine makes the same bytes.
+const FINGERPRINT: u64 = 0x20C9_9AC4_F88A_B808;
+
+#[test]
+fn the_data_is_enough_and_the_same_each_time() {
+    let cases = of_tallies();
+    let file = write_file(&cases);
+    assert_eq!(write_file(&of_tallies()), file);
+    assert_eq!(cases.len(), 1_543);
+    assert_eq!(file.len(), 356_543);
+    let fingerprint = file.iter().fold(0xCBF2_9CE4_8422_2325, |sum: u64, &byte| {
+        (sum ^ u64::from(byte)).wrapping_mul(0x100_0000_01B3)
+    });
+    assert_eq!(fingerprint, FINGERPRINT);
+    // Every answer that an operation can give, and no other.
+    let mut met: BTreeMap<u8, BTreeSet<u32>> = BTreeMap::new();
+    for case in &cases {
+        let numbers = met.entry(case.call.operation).or_default();
+        numbers.insert(case.answer.refusal);
+    }
+    let asked = ANSWERS.map(|(operation, numbers)| (operation, numbers.iter().copied().collect()));
+    assert_eq!(met, BTreeMap::from(asked));
+    assert!(read_file(&file).is_some_and(|read| read == cases));
+}
+
+#[test]
+fn the_committed_file_is_what_is_made() {
+    let path = concat!(env!("CARGO_MANIFEST_DIR"), "/tallies.bin");
+    let committed = fs::read(path).expect("the committed file");
+    assert!(
+        committed == write_file(&of_tallies()),
+        "run reference/make-data"
+    );
+    assert!(include_str!("../FORMAT.md").contains("1,543 cases in 356,543 bytes"));
+}
+
+/// Each answer is the call's by this implementation.
+#[test]
+fn the_answers_are_those_of_the_calls() {
+    for case in of_tallies() {
+        assert_eq!(case.call.answer(), case.answer);
+    }
+}
+
 fn tally_cases() -> Vec<Case> {
-    let cases = all().into_iter();
+    let cases = of_tallies().into_iter();
     cases
         .filter(|case| (TALLY_MAKE..=TALLY_RUN).contains(&case.call.operation))
         .collect()
@@ -847,7 +903,7 @@ fn hunts(parts: &[Part]) -> Vec<Vec<u8>> {
 /// hidden.
 #[test]
 fn evenings_join_to_what_is_hidden() {
-    let cases = all();
+    let cases = of_tallies();
     let mut met = BTreeSet::new();
     for (start, first) in cases.iter().enumerate() {
         if first.call.operation != TALLY_RUN || first.call.numbers[1] != 0 {

@@ -15,7 +15,7 @@ use Rattle.key_header.specs.Answers.{checked_by}
 use Rattle.key_header.specs.declared.KeyCheck.{KeyCheck}
 use Rattle.key_header.proofs.Reading.{refused_says}
 use Rattle.key_width.specs.Width.{width}
-use Rattle.call_answers.specs.Answers.{PutSays, says, expand_refusal, ExpandSays, sizes_refusal, WidthSays, SensorSays}
+use Rattle.call_answers.specs.Answers.{PutSays, says, expand_refusal, ExpandSays, width_refusal, WidthSays, SensorSays}
 use Rattle.writer.specs.Written.{in_front}
 use Rattle.writer.proofs.Laws.{in_front_whole}
 use Rattle.call_answers.specs.declared.Answer.{Answer}
@@ -76,11 +76,11 @@ module _ (seed : List ℕ) (s : ℕ) (o : List ℕ) where
 -- CHOOSE WIDTH AND SENSOR POSITION
 
 module _ (p n w : ℕ) (r : Answer) where
-  pub width_refused : (number : ℕ) → number ≡ sizes_refusal p n w → (number ≡ 0 → ⊥) → r.refusal ≡ number → r.value ≡ 0 → WidthSays p n w r
+  pub width_refused : (number : ℕ) → number ≡ width_refusal p n w → (number ≡ 0 → ⊥) → r.refusal ≡ number → r.value ≡ 0 → WidthSays p n w r
   unfolding WidthSays
   width_refused number e some is none = says_refused _ _ r (λ h. some (e ∙ h)) (is ∙ e) none
 
-  pub width_given : sizes_refusal p n w ≡ 0 → r.refusal ≡ 0 → r.value ≡ width p n w → WidthSays p n w r
+  pub width_given : width_refusal p n w ≡ 0 → r.refusal ≡ 0 → r.value ≡ width p n w → WidthSays p n w r
   unfolding WidthSays
   width_given none is value = says_value _ _ r none is value
 

@@ -5,11 +5,11 @@ use mathlib.Core.Bool.{true}
 use native.Mathlib.Omega.{arith}
 use borrow.Author.Tests.{le-leb}
 use lib.Dec.{leb}
-use Rattle.call_answers.specs.Answers.{shares_refusal, sizes_refusal}
+use Rattle.call_answers.specs.Answers.{shares_refusal, width_refusal}
 use Rattle.call_answers.specs.AsWritten.{shares_written, width_written, SameCallRefusals}
 
 pub same_call_refusals : SameCallRefusals
-unfolding shares_written width_written shares_refusal sizes_refusal
+unfolding shares_written width_written shares_refusal width_refusal
 same_call_refusals =
     record {
       shares = λ p w long room narrow.

@@ -8,28 +8,28 @@ use borrow.Author.Tests.{not-false}
 use Rattle.grid.specs.Grid.{players_fit, positions_fit, value_fits}
 use Rattle.grid.proofs.Refusing.{In, Out, in_range}
 use Rattle.keys.proofs.Accepted.{passed}
-use Rattle.call_answers.specs.Answers.{sizes_refusal}
+use Rattle.call_answers.specs.Answers.{width_refusal}
 
 module _ (p n w : ℕ) where
-  pub sizes_1 : Out 2 p 6 → 1 ≡ sizes_refusal p n w
-  unfolding sizes_refusal
+  pub sizes_1 : Out 2 p 6 → 1 ≡ width_refusal p n w
+  unfolding width_refusal
   sizes_1 players = simp players
 
-  pub sizes_2 : In 2 p 6 → Out 1 n 65536 → 2 ≡ sizes_refusal p n w
-  unfolding sizes_refusal
+  pub sizes_2 : In 2 p 6 → Out 1 n 65536 → 2 ≡ width_refusal p n w
+  unfolding width_refusal
   sizes_2 players positions = simp (players, positions)
 
-  pub sizes_4 : In 2 p 6 → In 1 n 65536 → Out 1 w 16 → 4 ≡ sizes_refusal p n w
-  unfolding sizes_refusal
+  pub sizes_4 : In 2 p 6 → In 1 n 65536 → Out 1 w 16 → 4 ≡ width_refusal p n w
+  unfolding width_refusal
   sizes_4 players positions bytes = simp (players, positions, bytes)
 
-  pub sizes_0 : In 2 p 6 → In 1 n 65536 → In 1 w 16 → 0 ≡ sizes_refusal p n w
-  unfolding sizes_refusal
+  pub sizes_0 : In 2 p 6 → In 1 n 65536 → In 1 w 16 → 0 ≡ width_refusal p n w
+  unfolding width_refusal
   sizes_0 players positions bytes = simp (players, positions, bytes)
 
   -- what is left where none fits
-  pub sizes_fit : sizes_refusal p n w ≡ 0 → In 2 p 6 × In 1 n 65536 × In 1 w 16
-  unfolding sizes_refusal
+  pub sizes_fit : width_refusal p n w ≡ 0 → In 2 p 6 × In 1 n 65536 × In 1 w 16
+  unfolding width_refusal
   sizes_fit h =
       let players = passed (not (players_fit p)) 1 _ (λ t e. omega arith) h in
       let positions = passed (not (positions_fit n)) 2 _ (λ t e. omega arith) players.1 in
@@ -37,7 +37,7 @@ module _ (p n w : ℕ) where
       (not-false (players_fit p) players.0, not-false (positions_fit n) positions.0, not-false (value_fits w) bytes.0)
 
   -- positions and value bytes are few, and so are the bytes of all values
-  pub sizes_most : sizes_refusal p n w ≡ 0 → (n ≤ 65536) × (w ≤ 16) × (n * w ≤ 1048576)
+  pub sizes_most : width_refusal p n w ≡ 0 → (n ≤ 65536) × (w ≤ 16) × (n * w ≤ 1048576)
   sizes_most none =
       let fit = sizes_fit none in
       let positions = (in_range 1 n 65536 fit.1).1 in

@@ -1,4 +1,4 @@
--- What the operations answer and leave behind: document 03's Entry, word for word but for two names, `sizes_refusal`
+-- What the operations answer and leave behind: document 03's Entry, word for word but for two names, `width_refusal`
 -- and `expand_refusal`, and for what document 02 asks: Deal's place, (i), Expand's start, (ii), Draw card with the
 -- width of shares, (iii), Write page, (iv), and Choose width, (vi). Each is an equation that fixes the number, the
 -- value and every lent byte, refused calls too. Join keys has its own file; Check key and Held seed answer as the
@@ -112,14 +112,13 @@ expand_refusal l s o = cond (not (eqb l 32)) 7 (cond (ltb 4096 (s + o)) 16 0)
 unfoldable pub ExpandSays : (seed : List ℕ) → (start : ℕ) → (r : ℕ) → (out out_now : List ℕ) → Type 0
 ExpandSays bs s r o z = PutSays (expand_refusal (length bs) s (length o)) (expand_from s (length o) bs) r o z
 
--- the numbers that go without a grid: 1, 2, 4
-unfoldable pub sizes_refusal : (p n w : ℕ) → ℕ
-sizes_refusal p n w =
+-- CHOOSE WIDTH: "its order becomes 1, 2, 4"
+unfoldable pub width_refusal : (p n w : ℕ) → ℕ
+width_refusal p n w =
     cond (not (players_fit p)) 1 (cond (not (positions_fit n)) 2 (cond (not (value_fits w)) 4 0))
 
--- CHOOSE WIDTH: "its order becomes 1, 2, 4"
 unfoldable pub WidthSays : (p n w : ℕ) → Answer → Type 0
-WidthSays p n w r = says (sizes_refusal p n w) (width p n w) r
+WidthSays p n w r = says (width_refusal p n w) (width p n w) r
 
 -- SENSOR POSITION: 17
 unfoldable pub SensorSays : (s : ℕ) → Answer → Type 0

@@ -3,7 +3,7 @@
 -- statement.
 use Rattle.std.specs.Prelude.{◌≡◌, ◌&&◌, not, cond, List, ℕ, ◌*◌, ◌≤◌, ltb, leb, eqb, length}
 use Rattle.chacha20.specs.Expand.{expand}
-use Rattle.call_answers.specs.Answers.{PutSays, shares_refusal, sizes_refusal}
+use Rattle.call_answers.specs.Answers.{PutSays, shares_refusal, width_refusal}
 
 unfoldable pub shares_written : (p w long room : ℕ) → ℕ
 shares_written p w l o =
@@ -22,4 +22,4 @@ ExpandWritten bs r o z =
 -- value bytes of 1 to 16
 pub record SameCallRefusals : Type 0 where
   pub shares : (p w long room : ℕ) → w ≤ 16 → shares_written p w long room ≡ shares_refusal p w long room
-  pub width : (p n w : ℕ) → 1 ≤ w → w ≤ 16 → width_written p n ≡ sizes_refusal p n w
+  pub width : (p n w : ℕ) → 1 ≤ w → w ≤ 16 → width_written p n ≡ width_refusal p n w

@@ -3,7 +3,7 @@
 #![tactic(auto)]
 
 ghost use Rattle.std.specs.Prelude.{◌≡◌};
-ghost use Rattle.call_answers.specs.Answers.{told, share_fits, sizes_refusal};
+ghost use Rattle.call_answers.specs.Answers.{told, share_fits, width_refusal};
 
 pub mod refusals;
 
@@ -23,7 +23,7 @@ pub fn share_bytes_fit(share_bytes: u32) -> bool
 
 // 1, 2, 4, which are asked where no grid is named: the first that fits, or 0.
 pub fn sizes_refusal(players: u32, positions: u32, value_bytes: u32) -> u32
-    ensures { result ≡ sizes_refusal players positions value_bytes }
+    ensures { result ≡ width_refusal players positions value_bytes }
 {
     if !players_fit(players) {
         return REFUSED_PLAYERS;

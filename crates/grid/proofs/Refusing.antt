@@ -1,10 +1,10 @@
 -- The chain of a board's refusals, 1 to 5: what each failed test answers, those before it passed, and what is left where none fails.
 -- Assumes nothing.
 use mathlib.Core.Path.{◌≡◌, sym, ◌∙◌}
-use mathlib.Core.Bool.{Bool, true, false, ◌&&◌, not}
+use mathlib.Core.Bool.{Bool, true, false, ◌&&◌}
 use Prim.Native.Nat.{ℕ, ◌≤◌}
 use lib.Dec.{leb, ltb}
-use borrow.Author.Tests.{leb-true, le-leb, not-true, not-false}
+use borrow.Author.Tests.{leb-true, le-leb}
 use Rattle.xor.proofs.Laws.{and_left, and_right, and_both}
 use Rattle.grid.specs.Grid.{Board, grid_rows, board_refusal}
 
@@ -24,11 +24,11 @@ pub within : (low x high : ℕ) → low ≤ x → x ≤ high → In low x high
 within low x high least most = and_both (leb low x) (leb x high) (le-leb low x least) (le-leb x high most)
 
 -- a test that the code makes by a call, and refuses where it fails
-pub passed : {r t : Bool} → r ≡ t → not r ≡ false → t ≡ true
-passed {r} e h = sym e ∙ not-false r h
+pub passed : {r t : Bool} → r ≡ t → r ≡ true → t ≡ true
+passed e h = sym e ∙ h
 
-pub failed : {r t : Bool} → r ≡ t → not r ≡ true → t ≡ false
-failed {r} e h = sym e ∙ not-true r h
+pub failed : {r t : Bool} → r ≡ t → r ≡ false → t ≡ false
+failed e h = sym e ∙ h
 
 -- WHAT EACH FAILED TEST ANSWERS
 

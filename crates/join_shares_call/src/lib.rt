@@ -32,19 +32,19 @@ fn shares_refusal(players: u32, value_bytes: u32, shares: usize, room: usize) ->
 
 // Fills `out` with the XOR of so many shares of its length, which stand one after another; so too of the entries of a
 // tally.
-pub fn joined(count: usize, shares: &[u8], out: &mut [u8])
-    requires { length shares.now ≡ count * length out.old }
-    ensures { out.new ≡ joined_shares count (length out.old) shares.now }
+pub fn joined(players: usize, shares: &[u8], out: &mut [u8])
+    requires { length shares.now ≡ players * length out.old }
+    ensures { out.new ≡ joined_shares players (length out.old) shares.now }
 {
     writer::clear(out);
     let share = out.len();
-    let mut left = count;
+    let mut player = players;
     let mut end = shares.len();
-    while 0 < left {
+    while 0 < player {
         let start = end - share;
         xor::xor_into(out, &shares[start..end]);
         end = start;
-        left -= 1;
+        player -= 1;
     }
 }
 

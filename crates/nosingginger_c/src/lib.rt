@@ -9,7 +9,7 @@ pub mod draw;
 pub mod join;
 pub mod key;
 pub mod open;
-pub mod page;
+pub mod pages;
 pub mod seed;
 pub mod tallies;
 mod value;

@@ -7,7 +7,7 @@ use Rattle.std.specs.Prelude.{◌≡◌, Bool, true, false, ◌&&◌, cond, List
 use Rattle.grid.specs.Grid.{Board, board, board_refusal, Dealing, array_good, dealing_good, last_word, share}
 use Rattle.keys.specs.Keys.{key_long, mark_bytes, packed}
 use Rattle.key_width.specs.Width.{width}
-use Rattle.call_answers.specs.Answers.{sizes_refusal}
+use Rattle.call_answers.specs.Answers.{width_refusal}
 
 -- THE TEST
 
@@ -70,7 +70,7 @@ shares i = share two drawn i 0 ++ share two drawn i 1
 
 -- what Choose width and Key length answer: the number that refuses, or 0, and the value
 unfoldable pub width_answer : (p n w : ℕ) → List ℕ
-width_answer p n w = sizes_refusal p n w ∷ width p n w ∷ []
+width_answer p n w = width_refusal p n w ∷ width p n w ∷ []
 
 unfoldable pub length_answer : Board → List ℕ
 length_answer b = board_refusal b ∷ key_long b ∷ []

@@ -1,6 +1,6 @@
 -- A tally's numbers: the chain of 1, 2, 4, 11 and 9, what is known where none fits, and which keys are the tally's. Assumes nothing.
 use mathlib.Core.Path.{◌≡◌, sym, ◌∙◌}
-use mathlib.Core.Bool.{Bool, true, false, ◌&&◌, not, cond}
+use mathlib.Core.Bool.{Bool, true, false, ◌&&◌, cond}
 use Prim.Native.Nat.{ℕ, ◌+◌, ◌*◌, ◌-◌, ◌≤◌, ◌<◌}
 use native.Mathlib.Omega.{arith}
 use borrow.Author.Tests.{eq-eqb, ne_eqb, eqb-true, leb-false, ltb-false}
@@ -10,7 +10,7 @@ use Rattle.grid.specs.Grid.{Board}
 use Rattle.grid.proofs.Refusing.{passed as passed_test}
 use Rattle.keys.specs.Keys.{or_else}
 use Rattle.keys.proofs.Accepted.{passed, first_fits, next_fits, neither}
-use Rattle.call_answers.specs.Answers.{sizes_refusal}
+use Rattle.call_answers.specs.Answers.{width_refusal}
 use Rattle.call_answers.proofs.Numbers.{sizes_most}
 use Rattle.call_answers.proofs.Weighing.{short, beyond, place_number}
 use Rattle.tally.specs.Tallies.{tally_long, tally_refusal, takes}
@@ -18,7 +18,7 @@ use Rattle.tally.specs.declared.Tally.{Tally}
 
 module _ (t : Tally) where
   abbrev sizes : ℕ
-  sizes = sizes_refusal t.players t.positions t.value_bytes
+  sizes = width_refusal t.players t.positions t.value_bytes
 
   module _ (room : ℕ) where
     -- the number due behind 1, 2 and 4, as a sum: 11 for a player who is none, 9 for a short room
@@ -88,5 +88,5 @@ module _ (t : Tally) (b : Board) (i : ℕ) where
   takes_own p i_is n w = sym (same_but_bytes p i_is n) ∙ eq-eqb b.w t.value_bytes w
 
   -- a test that the code makes by a call: the key's table has the tally's length
-  pub taken_long : (fits : Bool) → fits ≡ takes t b i → not fits ≡ false → t.positions * t.value_bytes ≡ b.n * b.w
+  pub taken_long : (fits : Bool) → fits ≡ takes t b i → fits ≡ true → t.positions * t.value_bytes ≡ b.n * b.w
   taken_long fits e own = let same = taken (passed_test e own) in rw (same.2, same.3)

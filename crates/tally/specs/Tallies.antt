@@ -5,7 +5,7 @@ use Rattle.xor.specs.Xor.{xors, zeros}
 use Rattle.grid.specs.Grid.{Board}
 use Rattle.keys.specs.Keys.{or_else, key_refusal, head_in, table}
 use Rattle.page.specs.Page.{entry_at}
-use Rattle.call_answers.specs.Answers.{PutSays, sizes_refusal, key_rule, joined_shares}
+use Rattle.call_answers.specs.Answers.{PutSays, width_refusal, key_rule, joined_shares}
 use Rattle.tally.specs.declared.Tally.{Tally}
 
 -- "A tally is made for p, player, N and w"
@@ -22,7 +22,7 @@ entries t bs = take (tally_long t) bs
 -- "Making one checks 1, 2, 4, 11, 9", and "every later call first repeats making's checks"
 unfoldable pub tally_refusal : Tally → (room : ℕ) → ℕ
 tally_refusal t room =
-    or_else (sizes_refusal t.players t.positions t.value_bytes)
+    or_else (width_refusal t.players t.positions t.value_bytes)
     (cond (leb t.players t.player) 11 (cond (ltb room (tally_long t)) 9 0))
 
 -- MAKE: the tally is "all zero"

@@ -1,10 +1,9 @@
 -- What the calls of a tally say: its own numbers, those behind them, and what is written. Assumes nothing.
 use mathlib.Core.Path.{◌≡◌, refl, sym, ap, ◌∙◌}
-use mathlib.Core.Bool.{Bool, true, false, not, cond}
+use mathlib.Core.Bool.{Bool, true, false, cond}
 use mathlib.Core.List.{List, ◌++◌}
 use Prim.Native.Nat.{ℕ, ◌+◌, ◌*◌, ◌-◌, ◌≤◌}
 use native.Mathlib.Omega.{arith}
-use borrow.Author.Tests.{not-true, not-false}
 use lib.Dec.{leb, ltb}
 use lib.ListN.{length, take, drop, replicate}
 use Rattle.xor.specs.Xor.{xors, zeros}
@@ -69,20 +68,20 @@ module _ (t : Tally) (ks : List ℕ) (own : ℕ) (o : List ℕ) (is : own ≡ ta
         later =
             behind _ ∙ next_fits (key_refusal ks) _ key.none ∙ rw (key.board_is, key.player_is, ← asked)
 
-        pub add_other : (r : ℕ) → not fits ≡ true → r ≡ 23 → AddSays t ks r o o
+        pub add_other : (r : ℕ) → fits ≡ false → r ≡ 23 → AddSays t ks r o o
         unfolding AddSays
         add_other r other number =
-            put_number _ r _ o (later ∙ ap (λ (f : Bool). cond f 0 23) (not-true fits other) ∙ sym number) (λ z. omega arith)
+            put_number _ r _ o (later ∙ ap (λ (f : Bool). cond f 0 23) other ∙ sym number) (λ z. omega arith)
 
         -- the key's table was XORed into so many bytes of the lent one
-        pub added : (last part : List ℕ) (k : ℕ) → not fits ≡ false → part ≡ drop h.end ks → length last ≡ k →
+        pub added : (last part : List ℕ) (k : ℕ) → fits ≡ true → part ≡ drop h.end ks → length last ≡ k →
             last ≡ xors (take k o) (table_of (board_of h.header.board) (rule (board_of h.header.board)) part) → k ≡ tally_long t →
             AddSays t ks 0 o (last ++ drop k o)
         unfolding AddSays entries key_rule
         added last part k own_key cut kept now long =
             let b = board_of h.header.board in
             let opens : table_of b (rule b) part ≡ table (rule (head_in ks).board) ks = table_is ks h key part cut (rule b) ∙ rw (← key.board_is) in
-            put_done _ _ 0 o _ (later ∙ ap (λ (f : Bool). cond f 0 23) (not-false fits own_key)) refl
+            put_done _ _ 0 o _ (later ∙ ap (λ (f : Bool). cond f 0 23) own_key) refl
             (in_front_part (xors (take (tally_long t) o) (table (rule (head_in ks).board) ks)) last o k kept
             (now ∙ rw (opens, long)))
 

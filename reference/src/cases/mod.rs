@@ -68,6 +68,20 @@ const START: u64 = 0x4E6F_7369_6E67_6731;
 /// All cases, in the order of the file. What is added comes last, so that nothing else is drawn for
 /// the cases before it.
 pub fn all() -> Vec<Case> {
+    drawn().cases
+}
+
+/// The cases of tallies, which have a file of their own, in its order. They are drawn behind all others.
+pub fn of_tallies() -> Vec<Case> {
+    let mut maker = drawn();
+    let others = maker.cases.len();
+    tallies::add(&mut maker);
+    evenings::add(&mut maker);
+    maker.cases.split_off(others)
+}
+
+/// All cases but those of tallies, and the generator behind them.
+fn drawn() -> Maker {
     let mut maker = Maker {
         generator: Generator::new(START),
         cases: Vec::new(),
@@ -87,9 +101,7 @@ pub fn all() -> Vec<Case> {
     pages::add(&mut maker);
     widths::add(&mut maker);
     accepted::add(&mut maker, BOARDS.len(), board(SPRING));
-    tallies::add(&mut maker);
-    evenings::add(&mut maker);
-    maker.cases
+    maker
 }
 
 /// Collects cases.
