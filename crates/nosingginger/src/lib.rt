@@ -9,12 +9,15 @@ ghost use Rattle.call_answers.specs.Answers.{LongSays, ExpandSays, WidthSays, Se
 
 pub mod refusals;
 
-use call_answers::refusals::{ACCEPTED, REFUSED_EXPANSION, REFUSED_LENT, REFUSED_SENSOR};
+use call_answers::refusals::{
+    ACCEPTED, REFUSED_EXPANSION, REFUSED_LENT, REFUSED_PLAYERS, REFUSED_POSITIONS, REFUSED_SENSOR,
+    REFUSED_VALUE_BYTES,
+};
 pub use call_answers::{Answer, DealAnswer, Fault, deal_number};
-use call_answers::{accepted, refused, sizes_refusal};
+use call_answers::{accepted, refused};
 pub use deal_call::deal;
 pub use draw_call::draw_card;
-use grid::board::{Board, SEED_BYTES};
+use grid::board::{Board, SEED_BYTES, players_fit, positions_fit, value_bytes_fit};
 use grid::sensor::SENSORS;
 pub use join_keys_call::join_keys;
 pub use join_shares_call::join_shares;
@@ -50,9 +53,14 @@ pub fn key_length(players: u32, positions: u32, width: u32, value_bytes: u32) ->
 pub fn choose_width(players: u32, positions: u32, value_bytes: u32) -> Answer
     ensures { WidthSays players positions value_bytes result }
 {
-    let refusal = sizes_refusal(players, positions, value_bytes);
-    if refusal != ACCEPTED {
-        return refused(refusal);
+    if !players_fit(players) {
+        return refused(REFUSED_PLAYERS);
+    }
+    if !positions_fit(positions) {
+        return refused(REFUSED_POSITIONS);
+    }
+    if !value_bytes_fit(value_bytes) {
+        return refused(REFUSED_VALUE_BYTES);
     }
     accepted(key_width::shortest_width(players, positions, value_bytes))
 }
