@@ -4,6 +4,7 @@
      player join            reads all keys of a match one after another; writes each position's joined value in hexadecimal, one on a line
      player card L          reads a key, in front of it a line with its length in bytes, and then a deck of cards of L
                             bytes; writes what this key's phone answers, in hexadecimal
+     player shares P L      reads shares or answers of P players, L bytes each; writes their XOR in hexadecimal
      player shares P L T    reads T times the shares or answers of P players, L bytes each; writes the XOR of each time's
                             in hexadecimal, one on a line
      player tally-make P I N W
@@ -280,8 +281,8 @@ int main(int count, char **words)
         return join_keys();
     if (count == 3 && strcmp(words[1], "card") == 0)
         return draw_card(number_of(words[2]));
-    if (count == 5 && strcmp(words[1], "shares") == 0)
-        return join_shares(number_of(words[2]), number_of(words[3]), number_of(words[4]));
+    if ((count == 4 || count == 5) && strcmp(words[1], "shares") == 0)
+        return join_shares(number_of(words[2]), number_of(words[3]), count == 5 ? number_of(words[4]) : 1);
     if (count == 6 && strcmp(words[1], "tally-make") == 0)
         return tally_make(words + 2);
     if (count == 6 && strcmp(words[1], "tally-add") == 0)
@@ -302,7 +303,7 @@ int main(int count, char **words)
         return sensor_position(number_of(words[2]));
     if (count == 2 && strcmp(words[1], "sensors") == 0)
         return sensors();
-    fprintf(stderr, "player: check | open | join | card L | shares P L T | tally-make P I N W | tally-add P I N W"
+    fprintf(stderr, "player: check | open | join | card L | shares P L [T] | tally-make P I N W | tally-add P I N W"
                     " | tally-look-up P I N W A.. | tally-total P I N W | page N W | length P N M W | width P N W"
                     " | expand START N | sensor S | sensors\n");
     return 2;

@@ -84,6 +84,8 @@ test('a call has as many parameters as are declared', () => {
             return [method, method === 'constructor' ? owner : (isStatic ? owner : owner.prototype)[method], parameters];
         }));
     assert.equal(calls.length, (1 + 17) + (1 + 4));
+    const ofOneClass = Object.getOwnPropertyNames(operations.Nosingginger.prototype).filter((name) => name !== 'constructor');
+    assert.equal(ofOneClass.filter((name) => !name.startsWith('tally')).length, 13);
     for (const [method, call, parameters] of calls) {
         const many = parameters.replace(/\{.*?\}/g, '').split(',').filter((parameter) => parameter !== '').length;
         assert.equal(call.length, many, method);

@@ -49,6 +49,7 @@ test('the module has no imports and all calls', () => {
     assert.deepEqual(WebAssembly.Module.imports(module), []);
     const names = WebAssembly.Module.exports(module).map(({ name }) => name).filter((name) => name.startsWith('nsg_'));
     assert.equal(names.length, 17);
+    assert.equal(names.filter((name) => !name.startsWith('nsg_tally')).length, 13);
 });
 
 test('it is made from bytes, a module, a place and base64', async () => {

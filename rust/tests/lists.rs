@@ -40,9 +40,11 @@ fn refusals_are_those_of_the_list() {
 }
 
 #[test]
-fn numbers_run_from_1_to_23_without_8_and_lead_back() {
+fn numbers_run_from_1_to_22_without_8_and_lead_back() {
     let numbers: Vec<u32> = (0..1_000).chain([u32::MAX - 1, u32::MAX]).filter(|number| of_number(*number).is_some()).collect();
-    assert_eq!(numbers, (1..=7).chain(9..=23).collect::<Vec<u32>>());
+    // 23 is the tally's, which came behind them
+    assert_eq!(numbers.last(), Some(&23));
+    assert_eq!(numbers[..numbers.len() - 1], (1..=7).chain(9..=22).collect::<Vec<u32>>());
     assert_eq!(numbers, Refusal::LIST.map(|(number, ..)| number));
     for number in numbers {
         let refusal = of_number(number).unwrap();
