@@ -1,7 +1,6 @@
 -- `nosingginger::expand_seed` meets its contract. Assumes nothing.
 use native.Mathlib.Omega.{arith}
 use Rattle.call_answers.proofs.Answering.{expand_seed_refused, expand_room_refused, expanded}
-use borrow.Author.Rules.{rules}
 use Rattle.nosingginger.proofs.expand_seed.Goals as goal
 
 pub returns : goal.returns

@@ -4,7 +4,6 @@ use native.Mathlib.Omega.{arith}
 use Rattle.call_answers.specs.Answers.{LongSays}
 use Rattle.call_answers.proofs.Answering.{says_refused, says_value}
 use Rattle.key_lengths.proofs.Lengths.{key_most}
-use borrow.Author.Rules.{rules}
 use Rattle.nosingginger.proofs.key_length.Goals as goal
 
 pub returns-then-refusal-ne-ACCEPTED : goal.returns-then-refusal-ne-ACCEPTED

@@ -1,7 +1,6 @@
 -- `nosingginger::sensor_position` meets its contract. Assumes nothing.
 use mathlib.Core.Path.{◌∙◌}
 use Rattle.call_answers.proofs.Answering.{sensor_refused, sensor_given}
-use borrow.Author.Rules.{rules}
 use Rattle.nosingginger.proofs.sensor_position.Goals as goal
 
 pub returns-then-sensor-ge-SENSORS : goal.returns-then-sensor-ge-SENSORS
