@@ -1,10 +1,23 @@
-// Reading into a buffer until it is full: one read may give fewer bytes than there are. Assumes nothing.
+// Opening a file by a name that is said where there is none, and reading into a buffer until it is full: one read may
+// give fewer bytes than there are. Assumes nothing.
 #![tactic(auto)]
 
 ghost use Rattle.std.specs.Prelude.{◌≤◌, length, IfOk};
 
-use std::io;
-use std::io::Read;
+use std::io::{Eprint, Read};
+use std::rt::Files;
+use std::{fs, io};
+
+// Opens a file to read. Where that fails, standard error has its name.
+pub fn opened<R: Eprint + Files>(rt: &R, path: &str) -> io::Result<R::File> {
+    match fs::open(rt, path) {
+        Ok(file) => Ok(file),
+        Err(error) => {
+            eprintln!(rt; "{path}: cannot be opened")?;
+            Err(error)
+        }
+    }
+}
 
 // Reads until the buffer is full or the reader ends, and answers how many bytes stand at the buffer's front.
 pub fn read_full<R: Read>(reader: &mut R, buffer: &mut [u8]) -> io::Result<usize>

@@ -11,12 +11,11 @@ mod operations;
 
 ghost use Rattle.std.specs.Prelude.{◌≡◌, length};
 
-use full_read::read_full;
+use full_read::{opened, read_full};
 use operations::{
     CHECK_KEY, CHOOSE_WIDTH, DEAL, DEALING_PROGRAM, DRAW_CARD, EXPAND, HELD_SEED, JOIN_KEYS,
     JOIN_SHARES, JOINING_PROGRAM, KEY_LENGTH, OPEN_ALL, OPEN_ONE, SENSOR_POSITION, WRITE_PAGE,
 };
-use std::fs;
 
 fn text(rt: &impl Print, words: &[u8]) -> std::io::Result<()> {
     rt.write_all(words)
@@ -101,8 +100,8 @@ fn lines(rt: &impl Print, file: &[u8]) -> std::io::Result<()> {
 }
 
 fn main(rt: HostRuntime) -> std::io::Result<()> {
-    let mut opened = fs::open(&rt, "cases.bin")?;
+    let mut cases = opened(&rt, "cases.bin")?;
     let mut file = file_buffer();
-    let length = read_full(&mut opened, &mut file)?;
+    let length = read_full(&mut cases, &mut file)?;
     lines(&rt, &file[..length])
 }

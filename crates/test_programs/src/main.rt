@@ -6,9 +6,10 @@
 
 ghost use Rattle.std.specs.Prelude.{◌≡◌, ◌≤◌, ◌<◌, length, IfOk};
 
-use full_read::read_full;
+use full_read::{opened, read_full};
+use std::io::Eprint;
 use std::rt::Files;
-use std::{fs, str};
+use std::str;
 
 // As many zeros as the joining program's output, and one more, so that a longer file is known. The `ensures` gives only the length, as in
 // `io::buffer`.
@@ -29,22 +30,22 @@ fn input_buffer() -> [u8; 200000]
 }
 
 // Whether a file of data/ has these bytes and no others.
-fn stored(rt: &impl Files, bytes: &[u8], path: &str) -> std::io::Result<bool> {
-    let mut file = fs::open(rt, path)?;
+fn stored(rt: &(impl Eprint + Files), bytes: &[u8], path: &str) -> std::io::Result<bool> {
+    let mut file = opened(rt, path)?;
     let mut expected = file_buffer();
     let length = read_full(&mut file, &mut expected)?;
     Ok(check::same(bytes, &expected[..length]))
 }
 
 // Whether the dealing program writes the file.
-fn deals(rt: &impl Files, input: &[u8], path: &str) -> std::io::Result<bool> {
+fn deals(rt: &(impl Eprint + Files), input: &[u8], path: &str) -> std::io::Result<bool> {
     let mut output = io::large_buffer();
     let written = program_deal::dealing_program(input, &mut output);
     stored(rt, &output[..written], path)
 }
 
 // Whether the joining program writes the file.
-fn joins(rt: &impl Files, input: &[u8], path: &str) -> std::io::Result<bool> {
+fn joins(rt: &(impl Eprint + Files), input: &[u8], path: &str) -> std::io::Result<bool> {
     let mut table = io::large_buffer();
     let mut output = program_output::text_buffer();
     let written = program_join::joining_program(input, &mut table, &mut output);
@@ -52,7 +53,12 @@ fn joins(rt: &impl Files, input: &[u8], path: &str) -> std::io::Result<bool> {
 }
 
 // Whether the program of this name writes a file when it reads these bytes.
-fn writes(rt: &impl Files, program: &[u8], input: &[u8], path: &str) -> std::io::Result<bool> {
+fn writes(
+    rt: &(impl Eprint + Files),
+    program: &[u8],
+    input: &[u8],
+    path: &str,
+) -> std::io::Result<bool> {
     if check::same(program, b"deal") {
         return deals(rt, input, path);
     }
@@ -93,7 +99,7 @@ fn length_in(word: &[u8]) -> usize
 
 // Whether the program of this name writes the one file when it reads so many bytes, the other file's and then zeros.
 fn equal(
-    rt: &impl Files,
+    rt: &(impl Eprint + Files),
     program: &[u8],
     input_path: &str,
     count: usize,
@@ -101,7 +107,7 @@ fn equal(
 ) -> std::io::Result<bool>
     requires { count ≤ 200000 }
 {
-    let mut file = fs::open(rt, input_path)?;
+    let mut file = opened(rt, input_path)?;
     let mut input = input_buffer();
     read_full(&mut file, &mut input)?;
     writes(rt, program, &input[..count], output_path)
@@ -148,7 +154,7 @@ fn next_word(list: &[u8], end: usize) -> usize
 }
 
 // Runs the case of the line that begins at a place, and answers where the next one begins.
-fn run_line(rt: &(impl Files + Print), list: &[u8], at: usize) -> std::io::Result<usize>
+fn run_line(rt: &(impl Eprint + Files + Print), list: &[u8], at: usize) -> std::io::Result<usize>
     requires { at < length list.now }
     ensures { IfOk result (λ next. at < next) }
 {
@@ -172,7 +178,7 @@ fn run_line(rt: &(impl Files + Print), list: &[u8], at: usize) -> std::io::Resul
 }
 
 // Runs the cases of the list, a line after another.
-fn run(rt: &(impl Files + Print), list: &[u8]) -> std::io::Result<()> {
+fn run(rt: &(impl Eprint + Files + Print), list: &[u8]) -> std::io::Result<()> {
     let mut at: usize = 0;
     while at < list.len() {
         at = run_line(rt, list, at)?;
@@ -181,7 +187,7 @@ fn run(rt: &(impl Files + Print), list: &[u8]) -> std::io::Result<()> {
 }
 
 fn main(rt: HostRuntime) -> std::io::Result<()> {
-    let mut file = fs::open(&rt, "cases")?;
+    let mut file = opened(&rt, "cases")?;
     let mut list = io::large_buffer();
     let length = read_full(&mut file, &mut list)?;
     run(&rt, &list[..length])

@@ -5,11 +5,11 @@
 
 ghost use Rattle.std.specs.Prelude.{◌≡◌, ◌+◌, ◌≤◌, length};
 
-use full_read::read_full;
+use full_read::{opened, read_full};
 use grid::board::Board;
 use key_header::numbers::{Number, Reader};
 use nosingginger::Answer;
-use std::fs;
+use std::io::Eprint;
 use std::rt::Files;
 
 // The end of a line: what a comparison has found.
@@ -119,8 +119,8 @@ fn key_stream_5(rt: &impl Print) -> std::io::Result<()> {
 }
 
 // The bytes of a file of data/, as many as `out` has room for.
-fn read(rt: &impl Files, path: &str, out: &mut [u8]) -> std::io::Result<()> {
-    let mut file = fs::open(rt, path)?;
+fn read(rt: &(impl Eprint + Files), path: &str, out: &mut [u8]) -> std::io::Result<()> {
+    let mut file = opened(rt, path)?;
     read_full(&mut file, out)?;
     Ok(())
 }
@@ -147,7 +147,7 @@ fn compare(
 
 // An expansion from byte `start` up to byte `end`, by the files of a seed and its key stream.
 fn expansion(
-    rt: &(impl Files + Print),
+    rt: &(impl Eprint + Files + Print),
     name: &[u8],
     seed_path: &str,
     stream_path: &str,
@@ -172,7 +172,7 @@ fn expansion(
 }
 
 fn expansions(
-    rt: &(impl Files + Print),
+    rt: &(impl Eprint + Files + Print),
     name: &[u8],
     seed_path: &str,
     stream_path: &str,
