@@ -169,9 +169,11 @@ impl Draw for Generator {
             11 if *positions > 1 => *value_bytes = wraps(*positions) + self.pick(&[0, *value_bytes]),
             _ => {}
         }
-        // Another number of positions may ask for a large table, and mostly gets one that is too short.
+        // Another number of positions, or of value bytes far outside their range, may ask for a large table, and mostly gets one
+        // that is too short.
         let right = tally.positions.wrapping_mul(tally.value_bytes);
-        let most = if tally.positions == numbers.positions { right } else { right.min(MOST_OTHER_TABLE) };
+        let is_near = tally.positions == numbers.positions && tally.value_bytes <= MOST_VALUE_WIDTH + 1;
+        let most = if is_near { right } else { right.min(MOST_OTHER_TABLE) };
         (tally, self.output_length(most as usize))
     }
 
