@@ -17,6 +17,7 @@ FOLDER = os.path.join(ROOT, "target", "hunt")
 PLAYER = os.path.join(FOLDER, "player")
 ARCHIVE = os.path.join(ROOT, "target", "staticlib", "libnosingginger_c.a")
 INCLUDE = os.path.join(ROOT, "include")
+PROGRAMS = ("dealer", "joiner")
 ROOM = 9                    # joiner's refusal of a table above 65,536 bytes
 MOST_KEY_BYTES = 263176     # of any board: one byte more, and no key is so long
 SIGNALS = [signal.SIGINT, signal.SIGTERM, signal.SIGHUP]
@@ -162,6 +163,23 @@ def player_is_old():
     return not all(map(os.path.exists, sources + [PLAYER])) or any(os.path.getmtime(PLAYER) <= os.path.getmtime(file) for file in sources)
 
 
+def built_program(name):
+    """Where rt leaves a program."""
+    return os.path.join(ROOT, "crates", name, "out", name)
+
+
+def program_is_old(name):
+    """Whether a program is absent, or older than a file that it is proved and built from. rt itself takes some seconds to say so."""
+    if not os.path.exists(built_program(name)):
+        return True
+    made, listed = os.path.getmtime(built_program(name)), os.path.join(ROOT, "crates.txt")
+    with open(listed, encoding="utf-8") as text:
+        crates = proving.crates_needed(text.read(), (name,))
+    files = [listed] + [os.path.join(folder, file) for crate in crates for part in ("src", "specs", "proofs")
+                        for folder, _, some in os.walk(os.path.join(ROOT, "crates", crate, part)) for file in some]
+    return any(made <= os.path.getmtime(file) for file in files)
+
+
 def require_tools():
     """What is needed for proving and building is there. Asked first: it would be a pity to learn it after minutes."""
     needed = [("rt", "the Rattle kit"), ("make", "make")] + ([(compiler()[0], "a C compiler, or what CC names")] if player_is_old() else [])
@@ -178,8 +196,9 @@ def build():
         every = counter.progress.left
         sys.stderr.write(FIRST_TIME % proving.time_words(proving.seconds_left([], every, 0)))
         counter.say()
-    for program in ("dealer", "joiner"):    # rt also runs what it builds: of an empty input both say a refusal
+    for program in filter(program_is_old, PROGRAMS):    # rt also runs what it builds: of an empty input both say a refusal
         built(["rt", "run"], "the proof of dealer and joiner", counter, os.path.join(ROOT, "crates", program))
+        os.utime(built_program(program))
     built(["make", "--silent", "all"], "the proof of the C library", counter)
     counter.close()
     try:
@@ -208,7 +227,7 @@ def run(who, program, words, given):
 
 def proved(name, given):
     """What dealer or joiner writes."""
-    return run(name, os.path.join(ROOT, "crates", name, "out", name), [], given)
+    return run(name, built_program(name), [], given)
 
 
 def player(words, given=b""):
