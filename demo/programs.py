@@ -110,7 +110,7 @@ class Counter:
     def __init__(self):
         with open(os.path.join(ROOT, "crates.txt"), encoding="utf-8") as listed:
             self.progress = proving.Progress(proving.crates_needed(listed.read()))
-        self.began, self.shown = time.monotonic(), 0
+        self.began, self.shown, self.words = time.monotonic(), 0, None
         self.terminal = sys.stderr is not None and sys.stderr.isatty()
 
     def say(self):
@@ -118,6 +118,9 @@ class Counter:
         if sys.stderr is None or not left or not (self.terminal or len(done) % 10 == 0):
             return
         words = proving.progress_words(done, left, time.monotonic() - self.began)
+        if self.terminal and words == self.words:     # rt writes many lines for a crate
+            return
+        self.words = words
         sys.stderr.write("\r%s" % words.ljust(self.shown) if self.terminal else words + "\n")
         sys.stderr.flush()
         self.shown = len(words) if self.terminal else 0
