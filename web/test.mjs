@@ -4,7 +4,7 @@
 // targets/build has run.
 import assert from 'node:assert/strict';
 import { execFileSync } from 'node:child_process';
-import { readFileSync, readdirSync } from 'node:fs';
+import { readFileSync } from 'node:fs';
 import { test } from 'node:test';
 import { fileURLToPath } from 'node:url';
 import { load, loadBase64, Nosingginger, Refused, REFUSALS, Tally } from './nosingginger.mjs';
@@ -71,13 +71,10 @@ test('the refusals are those of the one list, and have the names of the Rattle s
     const numbers = REFUSALS.map(({ number }) => number);
     assert.deepEqual(numbers, [...new Set(numbers)].sort((a, b) => a - b));
     assert.deepEqual({ ...new Refused(8) }, { number: 8, name: 'REFUSED', words: 'a number that is not known here' });
-    const found = new Map();
-    for (const file of readdirSync(new URL('crates/', root), { recursive: true }).filter((name) => /src\/[^/]*\.rt$/.test(name))) {
-        for (const [, name, number] of readFileSync(new URL(`crates/${file}`, root), 'utf8').matchAll(/pub const (REFUSED_\w+): u32 = (\d+);/g)) {
-            found.set(Number(number), name);
-        }
-    }
-    assert.deepEqual([...found].sort(([a], [b]) => a - b), REFUSALS.map(({ number, name }) => [number, name]));
+    const enumeration = readFileSync(new URL('crates/refusal/src/lib.rt', root), 'utf8').matchAll(/^ {4}(\w+) = (\d+),$/gm);
+    const snake = (variant) => variant.replace(/(?<=[a-z])(?=[A-Z])/g, '_').toUpperCase();
+    assert.deepEqual([...enumeration].map(([, variant, number]) => [Number(number), `REFUSED_${snake(variant)}`]),
+        REFUSALS.map(({ number, name }) => [number, name]));
 });
 
 // Node 18 has the system's random source only where it is asked for; later ones have it always.

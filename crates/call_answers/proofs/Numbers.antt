@@ -6,27 +6,11 @@ use native.Mathlib.Nat.{mul-le-mul}
 use native.Mathlib.Omega.{arith}
 use borrow.Author.Tests.{not-false}
 use Rattle.grid.specs.Grid.{players_fit, positions_fit, value_fits}
-use Rattle.grid.proofs.Refusing.{In, Out, in_range}
+use Rattle.grid.proofs.Refusing.{In, in_range}
 use Rattle.keys.proofs.Accepted.{passed}
 use Rattle.call_answers.specs.Answers.{width_refusal}
 
 module _ (p n w : ℕ) where
-  pub sizes_1 : Out 2 p 6 → 1 ≡ width_refusal p n w
-  unfolding width_refusal
-  sizes_1 players = simp players
-
-  pub sizes_2 : In 2 p 6 → Out 1 n 65536 → 2 ≡ width_refusal p n w
-  unfolding width_refusal
-  sizes_2 players positions = simp (players, positions)
-
-  pub sizes_4 : In 2 p 6 → In 1 n 65536 → Out 1 w 16 → 4 ≡ width_refusal p n w
-  unfolding width_refusal
-  sizes_4 players positions bytes = simp (players, positions, bytes)
-
-  pub sizes_0 : In 2 p 6 → In 1 n 65536 → In 1 w 16 → 0 ≡ width_refusal p n w
-  unfolding width_refusal
-  sizes_0 players positions bytes = simp (players, positions, bytes)
-
   -- what is left where none fits
   pub sizes_fit : width_refusal p n w ≡ 0 → In 2 p 6 × In 1 n 65536 × In 1 w 16
   unfolding width_refusal

@@ -1,38 +1,24 @@
 -- The numbers of Write page: the chain of 2, 4, 7 and 9, and what is known where none fits. Assumes nothing.
-use mathlib.Core.Path.{◌≡◌, sym, ◌∙◌}
+use mathlib.Core.Path.{◌≡◌, refl}
 use mathlib.Core.Bool.{not}
 use mathlib.Core.List.{List}
-use Prim.Native.Nat.{ℕ, ◌*◌, ◌≤◌, ◌<◌}
+use Prim.Native.Nat.{ℕ, ◌*◌, ◌≤◌}
 use native.Mathlib.Omega.{arith}
-use borrow.Author.Tests.{eq-eqb, ne_eqb, le-ltb, lt-ltb, eqb-true, ltb-false, not-false}
+use borrow.Author.Tests.{eq-eqb, le-ltb, eqb-true, ltb-false, not-false}
 use lib.Dec.{eqb, ltb}
 use lib.ListN.{length}
+use Rattle.std.specs.Prelude.{Result}
 use Rattle.writer.specs.Written.{in_front}
+use Rattle.refusal.specs.Refusing.{refusal_number}
+use Rattle.refusal.specs.declared.Refusal.{Refusal}
 use Rattle.grid.specs.Grid.{positions_fit, value_fits}
-use Rattle.grid.proofs.Refusing.{In, Out, in_range}
+use Rattle.grid.proofs.Refusing.{In, in_range}
 use Rattle.keys.proofs.Accepted.{passed}
 use Rattle.page.specs.Page.{page, page_long, Pageable}
-use Rattle.call_answers.specs.Answers.{page_refusal, PageSays}
-use Rattle.call_answers.specs.declared.Answer.{Answer}
-use Rattle.call_answers.proofs.Answering.{put_refused, put_done, says_refused, says_value}
+use Rattle.call_answers.specs.Answers.{answer_told, page_refusal, PageSays}
+use Rattle.call_answers.proofs.Answering.{put_done, put_err, says_err, says_ok}
 
 module _ (n w l o : ℕ) where
-  pub page_2 : Out 1 n 65536 → 2 ≡ page_refusal n w l o
-  unfolding page_refusal
-  page_2 positions = simp positions
-
-  pub page_4 : In 1 n 65536 → Out 1 w 16 → 4 ≡ page_refusal n w l o
-  unfolding page_refusal
-  page_4 positions bytes = simp (positions, bytes)
-
-  pub page_7 : In 1 n 65536 → In 1 w 16 → (l ≡ n * w → ⊥) → 7 ≡ page_refusal n w l o
-  unfolding page_refusal
-  page_7 positions bytes long = simp (positions, bytes, ne_eqb l (n * w) long)
-
-  pub page_9 : In 1 n 65536 → In 1 w 16 → l ≡ n * w → o < page_long n w → 9 ≡ page_refusal n w l o
-  unfolding page_refusal
-  page_9 positions bytes long room = simp (positions, bytes, eq-eqb l (n * w) long, lt-ltb o (page_long n w) room)
-
   pub page_0 : In 1 n 65536 → In 1 w 16 → l ≡ n * w → page_long n w ≤ o → 0 ≡ page_refusal n w l o
   unfolding page_refusal
   page_0 positions bytes long room = simp (positions, bytes, eq-eqb l (n * w) long, le-ltb o (page_long n w) room)
@@ -55,15 +41,12 @@ page_fits n w o ts h =
 
 -- WHAT A CALL SAYS
 
-module _ (n w : ℕ) (ts : List ℕ) (r : Answer) (o z : List ℕ) where
-  pub page_refused : (number : ℕ) → number ≡ page_refusal n w (length ts) (length o) → (number ≡ 0 → ⊥) → r.refusal ≡ number → r.value ≡ 0 → z ≡ o →
-      PageSays n w ts r o z
+module _ (n w : ℕ) (ts o : List ℕ) where
+  pub page_refused : (r : Refusal) → refusal_number r ≡ page_refusal n w (length ts) (length o) → PageSays n w ts (answer_told (Result.Err r)) o o
   unfolding PageSays
-  page_refused number e some is none same =
-      let due : page_refusal n w (length ts) (length o) ≡ 0 → ⊥ = λ h. some (e ∙ h) in
-      (says_refused _ _ r due (is ∙ e) none, put_refused _ _ r.refusal o z due (is ∙ e) same)
+  page_refused r e = (says_err r _ e _, put_err r _ e _ o)
 
-  pub page_given : page_refusal n w (length ts) (length o) ≡ 0 → r.refusal ≡ 0 → r.value ≡ page_long n w → z ≡ in_front (page n w ts) o →
-      PageSays n w ts r o z
+  pub page_given : (written : ℕ) (z : List ℕ) → page_refusal n w (length ts) (length o) ≡ 0 → written ≡ page_long n w → z ≡ in_front (page n w ts) o →
+      PageSays n w ts (answer_told (Result.Ok written)) o z
   unfolding PageSays
-  page_given h is value text = (says_value _ _ r h is value, put_done _ _ r.refusal o z h is text)
+  page_given written z h long text = (says_ok _ _ written h long, put_done _ _ 0 o z h refl text)

@@ -9,14 +9,19 @@ use borrow.Author.Tests.{eqb-true, eqb-false}
 use lib.Dec.{ltb, eqb}
 use lib.ListN.{length, get_or}
 use Rattle.grid.specs.Grid.{Board, board, grid_rows, arrays_good}
-use Rattle.grid.specs.Faults.{has_place, FirstFault, PlaceIsFirst}
+use Rattle.std.specs.Prelude.{Result, ⊤}
+use Rattle.refusal.specs.Refusing.{refusal_number}
+use Rattle.refusal.specs.declared.Refusal.{Refusal}
+use Rattle.refusal.proofs.Numbers.{number_apart, number_some}
+use Rattle.grid.specs.Faults.{Fault, has_place, FirstFault, PlaceIsFirst}
 use Rattle.grid.proofs.Faults.{place_is_first}
-use Rattle.grid.specs.declared.fault.Fault.{Fault}
+use Rattle.grid.specs.declared.fault.Fault as found
+use Rattle.dealing.specs.Refused.{refused_number}
+use Rattle.dealing.specs.declared.DealRefusal.{DealRefusal}
 use Rattle.keys.specs.Keys.{Lent, lent, sizes_refusal, lent_fault, deal_refusal, deal_place, key_long, or_else}
 use Rattle.keys.proofs.Accepted.{first_fits, next_fits}
 use Rattle.keys.proofs.Lending.{sizes_most, fault_placed, small_unplaced, placed_large, accepted_lent}
-use Rattle.call_answers.specs.Answers.{Told, told, ToldApart, DealSays, DealTells}
-use Rattle.call_answers.specs.declared.DealAnswer.{DealAnswer}
+use Rattle.call_answers.specs.Answers.{Told, told, ToldApart, AnswersToldApart, DealAnswer, deal_answer, DealSays, DealTells}
 use Rattle.call_answers.proofs.Putting.{answer_is}
 
 -- THE ANSWER IS FIXED
@@ -41,6 +46,39 @@ told_apart (DealAnswer.Number n) (DealAnswer.Fault g) e =
 told_apart (DealAnswer.Fault f) (DealAnswer.Number m) e =
     let none : ◌≡◌ {A = ℕ} 2 0 = ap (λ (t : Told). length t.place) e in absurd (omega arith)
 told_apart (DealAnswer.Fault f) (DealAnswer.Fault g) e = ap DealAnswer.Fault (same_fault f g e)
+
+-- the code's answers: no refusal has the number 0, and no two have one
+same_number : (n m : ℕ) → DealAnswer.Number n ≡ DealAnswer.Number m → n ≡ m
+same_number n m e = cc
+
+same_placed : (f g : Fault) → DealAnswer.Fault f ≡ DealAnswer.Fault g → f ≡ g
+same_placed f g e = cc
+
+not_placed : (n : ℕ) (f : Fault) → DealAnswer.Number n ≡ DealAnswer.Fault f → ⊥
+not_placed n f e = cc
+
+same_found : (r s : Refusal) (g c h d : ℕ) → r ≡ s → g ≡ h → c ≡ d
+    → ◌≡◌ {A = found.Fault} (record { refusal = r; grid_row = g; column = c }) (record { refusal = s; grid_row = h; column = d })
+same_found r s g c h d e f k = cc
+
+answers_apart : (x y : Result ⊤ DealRefusal) → deal_answer x ≡ deal_answer y → x ≡ y
+answers_apart (Result.Ok u) (Result.Ok v) e = refl
+answers_apart (Result.Ok u) (Result.Err (DealRefusal.Plain r)) e = absurd (number_some r (sym (same_number _ _ e)))
+answers_apart (Result.Err (DealRefusal.Plain r)) (Result.Ok u) e = absurd (number_some r (same_number _ _ e))
+answers_apart (Result.Err (DealRefusal.Plain r)) (Result.Err (DealRefusal.Plain s)) e =
+    ap (λ (q : Refusal). Result.Err (DealRefusal.Plain q)) (number_apart r s (same_number _ _ e))
+answers_apart (Result.Ok u) (Result.Err (DealRefusal.Fault g)) e = absurd (not_placed _ _ e)
+answers_apart (Result.Err (DealRefusal.Plain r)) (Result.Err (DealRefusal.Fault g)) e = absurd (not_placed _ _ e)
+answers_apart (Result.Err (DealRefusal.Fault f)) (Result.Ok u) e = absurd (not_placed _ _ (sym e))
+answers_apart (Result.Err (DealRefusal.Fault f)) (Result.Err (DealRefusal.Plain r)) e = absurd (not_placed _ _ (sym e))
+answers_apart (Result.Err (DealRefusal.Fault f)) (Result.Err (DealRefusal.Fault g)) e =
+    let same = same_placed _ _ e in
+    ap (λ (h : found.Fault). Result.Err (DealRefusal.Fault h))
+    (same_found _ _ _ _ _ _ (number_apart f.refusal g.refusal (ap (λ (h : Fault). h.number) same)) (ap (λ (h : Fault). h.grid_row) same) (ap (λ (h : Fault). h.column) same))
+
+pub answers_told_apart : AnswersToldApart
+unfolding AnswersToldApart ToldApart
+answers_told_apart x y e = answers_apart x y (told_apart (deal_answer x) (deal_answer y) e)
 
 -- A PLACE EXACTLY WITH 18 TO 20
 
@@ -147,8 +185,9 @@ module _ (p n m w a : ℕ) (v cs ss ws : List ℕ) (r : Told) (o z : List ℕ) (
     pub first_told : FirstFault on a cs (record { number = r.number; grid_row = get_or r.place 0 0; column = get_or r.place 1 0 })
     unfolding made PlaceIsFirst
     first_told =
-        subst⁻¹ (λ (g : Fault). FirstFault on a cs g)
-        (same_made _ _ _ _ _ _ number_is (ap (λ (xs : List ℕ). get_or xs 0 0) place_there) (ap (λ (xs : List ℕ). get_or xs 1 0) place_there))
+        let grid_row = ap (λ (xs : List ℕ). get_or xs 0 0) place_there in
+        let column = ap (λ (xs : List ℕ). get_or xs 1 0) place_there in
+        subst⁻¹ (λ (g : Fault). FirstFault on a cs g) (same_made _ _ _ _ _ _ number_is grid_row column)
         (place_is_first on a cs (λ none. omega (arith, number_is, least)))
 
 -- a number that is answered without a place has none, and that of a fault has one
@@ -169,6 +208,16 @@ module _ (p n m w a : ℕ) (v cs ss ws o z : List ℕ) where
   pub says_number : (d : DealAnswer) (k : ℕ) → DealTells p n m w a v cs ss ws (told d) o z → k ≡ (told d).number → DealSays p n m w a v cs ss ws k o z
   unfolding DealTells
   says_number d k tells e = rw e tells.1
+
+  pub says_refused : (d : DealRefusal) (k : ℕ) → DealTells p n m w a v cs ss ws (told (deal_answer (Result.Err d))) o z → k ≡ refused_number d →
+      DealSays p n m w a v cs ss ws k o z
+  unfolding told
+  says_refused (DealRefusal.Plain r) k tells e = says_number (DealAnswer.Number (refusal_number r)) k tells e
+  says_refused (DealRefusal.Fault f) k tells e = says_number (deal_answer (Result.Err (DealRefusal.Fault f))) k tells e
+
+  pub says_dealt : (u : ⊤) → DealTells p n m w a v cs ss ws (told (deal_answer (Result.Ok u))) o z → DealSays p n m w a v cs ss ws 0 o z
+  unfolding told
+  says_dealt u tells = says_number (DealAnswer.Number 0) 0 tells refl
 
   pub faulty_placed : (g : Fault) → DealTells p n m w a v cs ss ws (told (DealAnswer.Fault g)) o z → has_place g.number ≡ true
   unfolding told

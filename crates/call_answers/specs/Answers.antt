@@ -3,25 +3,37 @@
 -- width of shares, (iii), Write page, (iv), and Choose width, (vi). Each is an equation that fixes the number, the
 -- value and every lent byte, refused calls too. Join keys has its own file; Check key and Held seed answer as the
 -- crates key_header and keys say. Assumes nothing: these are definitions.
-use Rattle.std.specs.Prelude.{◌≡◌, Bool, ◌&&◌, not, cond, List, [], ◌∷◌, ℕ, zero, suc, ◌+◌, ◌*◌, ltb, leb, eqb, length, take, drop}
+use Rattle.std.specs.Prelude.{◌≡◌, Bool, ◌&&◌, not, cond, List, [], ◌∷◌, ℕ, zero, suc, ◌+◌, ◌*◌, ltb, leb, eqb, length, take, drop, Result, ⊤}
 use Rattle.xor.specs.Xor.{xors, zeros}
 use Rattle.writer.specs.Written.{in_front}
 use Rattle.chacha20.specs.From.{expand_from}
 use Rattle.seed_rows.specs.Rows.{rule}
+use Rattle.refusal.specs.Refusing.{refusal_number}
+use Rattle.refusal.specs.declared.Refusal.{Refusal}
 use Rattle.grid.specs.Grid.{Board, board, board_refusal, players_fit, positions_fit, value_fits}
+use Rattle.grid.specs.Faults.{Fault as Found}
 use Rattle.grid.specs.Sensors.{sensor_position}
 use Rattle.keys.specs.Keys.{or_else, lent, deal_refusal, deal_place, keys_from, key_long, key_refusal}
 use Rattle.keys.specs.Keys.{head_in, opened, table}
 use Rattle.key_width.specs.Width.{width}
 use Rattle.cards.specs.Cards.{picked}
 use Rattle.page.specs.Page.{page, page_long}
-use Rattle.call_answers.specs.declared.Answer.{Answer}
-use Rattle.call_answers.specs.declared.DealAnswer.{DealAnswer}
+use Rattle.dealing.specs.declared.DealRefusal.{DealRefusal}
 
 -- "either the full result or the first refusal number that fits, the lent output then unchanged"
 unfoldable pub PutSays : (refusal : ℕ) → (bytes : List ℕ) → (r : ℕ) → (out out_now : List ℕ) → Type 0
 PutSays zero bs r o z = (r ≡ 0) × (z ≡ in_front bs o)
 PutSays (suc n) bs r o z = (r ≡ suc n) × (z ≡ o)
+
+-- a number and a value: the number of a refusal with 0, or 0 with the value asked
+pub record Answer : Type 0 where
+  pub refusal : ℕ
+  pub value : ℕ
+
+-- each case of the code's answer
+abbrev pub answer_told : Result ℕ Refusal → Answer
+answer_told (Result.Ok v) = record { refusal = 0; value = v }
+answer_told (Result.Err r) = record { refusal = refusal_number r; value = 0 }
 
 -- a number and a value; the value of a refused call is 0
 unfoldable pub says : (refusal value : ℕ) → Answer → Type 0
@@ -39,6 +51,11 @@ pub record Told : Type 0 where
   pub number : ℕ
   pub place : List ℕ
 
+-- what Deal answers: 0, or the number of a refusal that has no place; or the first fault of the arrays, 18, 19 or 20 with its grid row and column
+pub data DealAnswer : Type 0 where
+  Number : ℕ → DealAnswer
+  Fault : Found → DealAnswer
+
 -- each case of its answer
 unfoldable pub told : DealAnswer → Told
 told (DealAnswer.Number n) = record { number = n; place = [] }
@@ -47,6 +64,16 @@ told (DealAnswer.Fault f) = record { number = f.number; place = f.grid_row ∷ f
 -- no two answers tell the same, so that what is told fixes the answer
 unfoldable pub ToldApart : Type 0
 ToldApart = (x y : DealAnswer) → told x ≡ told y → x ≡ y
+
+-- each case of the code's answer
+abbrev pub deal_answer : Result ⊤ DealRefusal → DealAnswer
+deal_answer (Result.Ok u) = DealAnswer.Number 0
+deal_answer (Result.Err (DealRefusal.Plain r)) = DealAnswer.Number (refusal_number r)
+deal_answer (Result.Err (DealRefusal.Fault f)) = DealAnswer.Fault (record { number = refusal_number f.refusal; grid_row = f.grid_row; column = f.column })
+
+-- nor do two of the code's
+unfoldable pub AnswersToldApart : Type 0
+AnswersToldApart = (x y : Result ⊤ DealRefusal) → told (deal_answer x) ≡ told (deal_answer y) → x ≡ y
 
 -- DEAL, with its place: "each comes with the grid row and column of the first fault", and no other number does
 unfoldable pub DealTells : (p n m w point : ℕ) → (value arrays seeds words : List ℕ) → Told → (out out_now : List ℕ)

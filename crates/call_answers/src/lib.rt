@@ -1,15 +1,13 @@
-// What the operations answer: the refusal numbers by name, a number with a value, and what Deal answers. The contracts
-// of all operations but Join keys stand in specs/Answers.antt. Assumes nothing.
+// What the operations ask in common: whether shares can have so many bytes, and the refusals that need no grid. The contracts of all
+// operations but Join keys stand in specs/Answers.antt. Assumes nothing.
 #![tactic(auto)]
 
 ghost use Rattle.std.specs.Prelude.{◌≡◌};
-ghost use Rattle.call_answers.specs.Answers.{told, share_fits, width_refusal};
-
-pub mod refusals;
+ghost use Rattle.refusal.specs.Refusing.{answer_number};
+ghost use Rattle.call_answers.specs.Answers.{share_fits, width_refusal};
 
 use grid::board::{players_fit, positions_fit, value_bytes_fit, within};
-pub use grid::fault::Fault;
-use refusals::{ACCEPTED, REFUSED_PLAYERS, REFUSED_POSITIONS, REFUSED_VALUE_BYTES};
+use refusal::Refusal;
 
 // The most bytes of a share that is joined, and of a card.
 const MOST_SHARE_BYTES: u32 = 256;
@@ -21,63 +19,20 @@ pub fn share_bytes_fit(share_bytes: u32) -> bool
     within(1, share_bytes, MOST_SHARE_BYTES)
 }
 
-// 1, 2, 4, which are asked where no grid is named: the first that fits, or 0.
-pub fn sizes_refusal(players: u32, positions: u32, value_bytes: u32) -> u32
-    ensures { result ≡ width_refusal players positions value_bytes }
+// The numbers stay three, here and in the calls: C and the papers have them one by one, and any may come.
+// 1, 2, 4, which are asked where no grid is named: the first that fits.
+#[tactic(auto, unfolding(crate::specs::Answers::width_refusal))]
+pub fn sizes_refusal(players: u32, positions: u32, value_bytes: u32) -> Result<(), Refusal>
+    ensures { answer_number result ≡ width_refusal players positions value_bytes }
 {
     if !players_fit(players) {
-        return REFUSED_PLAYERS;
+        return Err(Refusal::Players);
     }
     if !positions_fit(positions) {
-        return REFUSED_POSITIONS;
+        return Err(Refusal::Positions);
     }
     if !value_bytes_fit(value_bytes) {
-        return REFUSED_VALUE_BYTES;
+        return Err(Refusal::ValueBytes);
     }
-    ACCEPTED
-}
-
-// A number and a value: the number of a refusal with 0, or 0 with the value asked.
-#[derive(Clone, Copy)]
-pub struct Answer {
-    pub refusal: u32,
-    pub value: u32,
-}
-
-// The number of a refusal.
-pub fn refused(number: u32) -> Answer
-    ensures { (result.refusal ≡ number) × (result.value ≡ 0) }
-{
-    Answer {
-        refusal: number,
-        value: 0,
-    }
-}
-
-// The value asked.
-pub fn accepted(value: u32) -> Answer
-    ensures { (result.refusal ≡ 0) × (result.value ≡ value) }
-{
-    Answer {
-        refusal: ACCEPTED,
-        value,
-    }
-}
-
-// What Deal answers: 0, or the number of a refusal that has no place; or the first fault of the arrays, 18, 19 or 20
-// with its grid row and column.
-#[derive(Clone, Copy)]
-pub enum DealAnswer {
-    Number(u32),
-    Fault(Fault),
-}
-
-// Its number alone.
-pub fn deal_number(answer: DealAnswer) -> u32
-    ensures { result ≡ (told answer).number }
-{
-    match answer {
-        DealAnswer::Number(number) => number,
-        DealAnswer::Fault(fault) => fault.number,
-    }
+    Ok(())
 }

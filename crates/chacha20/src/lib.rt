@@ -28,8 +28,7 @@ fn xor_roll(word: u32, sum: u32, roll: u32) -> u32
     requires { (0 < roll) × (roll < 32) }
     ensures { result ≡ rolled (xor_word word sum) roll }
 {
-    let mixed = word ^ sum;
-    (mixed << roll) | (mixed >> (32 - roll))
+    (word ^ sum).rotate_left(roll)
 }
 
 // 2.1, one of the four lines: a += b; d ^= a; d <<<= roll
@@ -38,7 +37,7 @@ fn half_step(state: [u32; 16], a: usize, b: usize, d: usize, roll: u32) -> [u32;
     ensures { result ≡ mixed a b d roll state }
 {
     let mut next = state;
-    let sum = std::num::wrapping_add_u32(state[a], state[b]);
+    let sum = state[a].wrapping_add(state[b]);
     let word = xor_roll(state[d], sum, roll);
     next[a] = sum;
     next[d] = word;
@@ -50,17 +49,14 @@ pub fn quarter_round(state: [u32; 16], places: [usize; 4]) -> [u32; 16]
     requires { Places places }
     ensures { result ≡ quarter_at places state }
 {
-    let a = places[0];
-    let b = places[1];
-    let c = places[2];
-    let d = places[3];
+    let [a, b, c, d] = places;
     let first = half_step(state, a, b, d, 16);
     let second = half_step(first, c, d, b, 12);
     let third = half_step(second, a, b, d, 8);
     half_step(third, c, d, b, 7)
 }
 
-// 2.1: the first line of four quarter rounds, or the third
+// 2.1: the first line of four quarter rounds, or the third. As one function with `even_lines` it misses the bar of speed (docs/DECISIONS.md).
 pub fn odd_lines(
     state: [u32; 16],
     p: [usize; 4],
@@ -101,19 +97,11 @@ pub fn even_lines(
 fn double_round(state: [u32; 16]) -> [u32; 16]
     ensures { result ≡ double_round state }
 {
-    let table = QUARTER_ROUNDS;
-    let a = table[0];
-    let b = table[1];
-    let c = table[2];
-    let d = table[3];
+    let [a, b, c, d, e, f, g, h] = QUARTER_ROUNDS;
     let first = odd_lines(state, a, b, c, d, 16);
     let second = even_lines(first, a, b, c, d, 12);
     let third = odd_lines(second, a, b, c, d, 8);
     let fourth = even_lines(third, a, b, c, d, 7);
-    let e = table[4];
-    let f = table[5];
-    let g = table[6];
-    let h = table[7];
     let fifth = odd_lines(fourth, e, f, g, h, 16);
     let sixth = even_lines(fifth, e, f, g, h, 12);
     let seventh = odd_lines(sixth, e, f, g, h, 8);
@@ -135,12 +123,8 @@ pub fn twenty_rounds(initial: [u32; 16]) -> [u32; 16]
     ensures { result ≡ rounds 10 initial }
 {
     let mut state = initial;
-    let mut done: usize = 0;
-    while done < 10 {
-        let stepped = double_round(state);
-        let next = word_by_word(stepped);
-        state = next;
-        done += 1;
+    for _done in 0..10usize {
+        state = word_by_word(double_round(state));
     }
     state
 }

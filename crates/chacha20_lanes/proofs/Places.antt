@@ -3,7 +3,7 @@
 use mathlib.Core.Path.{◌≡◌, refl, sym, ap, ◌∙◌}
 use mathlib.Core.Logic.{⊎_elim}
 use mathlib.Core.List.{List}
-use Prim.Native.Nat.{ℕ, zero, suc, ◌+◌, ◌*◌, ◌-◌, ◌<◌, ◌≤◌}
+use Prim.Native.Nat.{ℕ, zero, suc, ◌+◌, ◌*◌, ◌<◌, ◌≤◌}
 use native.Mathlib.Omega.{arith}
 use native.Mathlib.Nat.{eq-or-lt_of_le}
 use lib.ListN.{length, get_or, set, drop, length-set, drop_of_length-le}
@@ -44,22 +44,13 @@ pub lane_of_sums : (l : ℕ) (xs ys : List ℕ) → length xs ≡ 64 → length 
 unfolding lane_of
 lane_of_sums l xs ys p q h = every_fourth_sums 16 l xs ys (p ∙ sym q) (omega arith)
 
--- TAKING a lane out, word by word: the words before w are taken
-module _ (l w : ℕ) (words states : List ℕ) (long : length words ≡ 16) (so_far : (v p : ℕ) → v < w → p ≡ 4 * v + l → get_or words v 0 ≡ get_or states p 0) where
-  -- one turn: the next word is taken
-  pub one_taken : (at : ℕ) → at ≡ 4 * w + l → w < 16 → (v p : ℕ) → v < w + 1 → p ≡ 4 * v + l → get_or (set words w (get_or states at 0)) v 0 ≡ get_or states p 0
-  one_taken at at_is h v p v< p_is =
-      let word = get_or states at 0 in
-      ⊎_elim
-      (λ e. let place : at ≡ p = omega arith in rw e (get_or-set_same words w word 0 (omega arith) ∙ ap (λ (n : ℕ). get_or states n 0) place))
-      (λ lt. get_or-set_other words w v word 0 (λ e. omega arith) ∙ so_far v p lt p_is)
-      (eq-or-lt_of_le {n = v} {m = w} (omega arith))
-
-  -- after the last turn the words are the lane
-  pub all_taken : 16 ≤ w → words ≡ lane_of l states
-  unfolding lane_of
-  all_taken h =
-      sym (every_fourth_listed 16 l 0 states words long (λ v p q v< p_is q_is. let place : q ≡ v = omega arith in rw place (sym (so_far v p (omega arith) p_is))))
+-- TAKING a lane out: sixteen words that are its places' are the lane
+pub all_taken : (l : ℕ) (words states : List ℕ) → length words ≡ 16 → ((v : ℕ) → v < 16 → get_or words v 0 ≡ get_or states (4 * v + l) 0) →
+    words ≡ lane_of l states
+unfolding lane_of
+all_taken l words states long taken =
+    sym (every_fourth_listed 16 l 0 states words long
+    (λ v p q v< p_is q_is. let place : q ≡ v = omega arith in rw (place, p_is) (sym (taken v v<))))
 
 -- PUTTING a lane, word by word
 

@@ -6,29 +6,22 @@ ghost use Rattle.std.specs.Prelude.{◌≡◌, ◌+◌, ◌≤◌, [], ◌∷◌
 ghost use Rattle.chacha20.specs.Expand.{word_at, sums, low_bytes};
 ghost use Rattle.chacha20.specs.Rfc8439.{initial_state};
 
-// 2.3: four bytes as a little-endian word
-fn word_of(first: u8, second: u8, third: u8, fourth: u8) -> u32
-    ensures { result ≡ word_at (first ∷ second ∷ third ∷ fourth ∷ []) 0 }
-{
-    first as u32 + 256 * (second as u32) + 65536 * (third as u32) + 16777216 * (fourth as u32)
-}
-
-// 2.3: the word whose first byte has the given place
+// 2.3: the little-endian word whose first byte has the given place
 fn load(bytes: &[u8], place: usize) -> u32
     requires { place + 4 ≤ length bytes.now }
     ensures { result ≡ word_at bytes.now place }
 {
-    word_of(
+    u32::from_le_bytes([
         bytes[place],
         bytes[place + 1],
         bytes[place + 2],
         bytes[place + 3],
-    )
+    ])
 }
 
+// Place by place, as the RFC prints the state: a loop would need the fifteen places in a table, with four cases of whose they are.
 // 2.3: the constant, the key, the block counter and the nonce
-pub fn initial_state(key: &[u8], counter: u32, nonce: &[u8]) -> [u32; 16]
-    requires { (length key.now ≡ 32) × (length nonce.now ≡ 12) }
+pub fn initial_state(key: &[u8; 32], counter: u32, nonce: &[u8; 12]) -> [u32; 16]
     ensures { result ≡ initial_state key.now counter nonce.now }
 {
     let constant = b"expand 32-byte k";
@@ -52,28 +45,27 @@ pub fn initial_state(key: &[u8], counter: u32, nonce: &[u8]) -> [u32; 16]
     ]
 }
 
+// No twin of `xor::xor_into`: words and not bytes, added and not XORed; one function for both would be a loop around a closure.
 // 2.3: word by word, the input words added to the output words
 pub fn add_into(out: &mut [u32], input: &[u32])
     requires { length out.old ≡ length input.now }
     ensures { out.new ≡ sums out.old input.now }
 {
-    let mut i: usize = 0;
-    while i < out.len() {
-        let sum = std::num::wrapping_add_u32(out[i], input[i]);
-        out[i] = sum;
-        i += 1;
+    for (i, word) in out.iter_mut().enumerate() {
+        *word = word.wrapping_add(input[i]);
     }
 }
 
-// 2.3: one word, its lowest byte first
+// 2.3: one word, its lowest byte first. Byte by byte: `copy_from_slice` asks how wide an address is, and the module is one for all (docs/TARGETS.md).
 fn put_word(word: u32, out: &mut [u8])
     requires { length out.old ≡ 4 }
     ensures { out.new ≡ low_bytes (word ∷ []) }
 {
-    out[0] = (word % 256) as u8;
-    out[1] = (word / 256 % 256) as u8;
-    out[2] = (word / 65536 % 256) as u8;
-    out[3] = (word / 16777216) as u8;
+    let [first, second, third, fourth] = word.to_le_bytes();
+    out[0] = first;
+    out[1] = second;
+    out[2] = third;
+    out[3] = fourth;
 }
 
 // 2.3: a state's words, serialized one by one
@@ -81,11 +73,7 @@ pub fn serialize(state: [u32; 16], out: &mut [u8])
     requires { length out.old ≡ 64 }
     ensures { out.new ≡ low_bytes state }
 {
-    let mut i: usize = 0;
-    while i < 16 {
-        let from = 4 * i;
-        let to = from + 4;
-        put_word(state[i], &mut out[from..to]);
-        i += 1;
+    for (i, word) in state.iter().enumerate() {
+        put_word(*word, &mut out[4 * i..4 * i + 4]);
     }
 }

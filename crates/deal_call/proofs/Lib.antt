@@ -1,2 +1,2 @@
--- What Deal asks of what it is lent. Assumes nothing.
-pub mod Lending
+-- What Deal says. Assumes nothing.
+pub mod Saying

@@ -7,7 +7,7 @@ use native.Mathlib.Omega.{arith}
 use native.Mathlib.Nat.{mul-le-mul_right}
 use native.Mathlib.Numerals.{add-one}
 use lib.ListN.{length, get_or, take, drop, length-append}
-use lib.Seq.{drop-drop, take_all}
+use lib.Seq.{drop-drop}
 use Rattle.grid.specs.Grid.{Board, columns, grid_rows, bit}
 use Rattle.grid.proofs.Facts.{BoardIn, columns_most}
 use Rattle.keys.specs.Keys.{packed_from, packed, held_seeds, mark_bytes, body_from}
@@ -83,12 +83,11 @@ row_parts m i cs ss = length-append (packed m i cs) (held_seeds i cs ss) ∙ ap 
 -- a grid row of four columns: a byte of marks, and four columns' seeds
 pub four_row : (at player : ℕ) {byte next after : ℕ} (array seeds : List ℕ) {old between now : List ℕ} → length array ≡ 4 →
     at + length (row_bytes 1 player array seeds) ≤ length old → byte ≡ packed_from 4 0 player (drop 0 array) → Wrote at (byte ∷ []) next old between →
-    Wrote next (held_seeds player (take 4 array) seeds) after between now → Wrote at (row_bytes 1 player array seeds) after old now
+    Wrote next (held_seeds player array seeds) after between now → Wrote at (row_bytes 1 player array seeds) after old now
 unfolding row_bytes packed
 four_row at player {byte} array seeds four room is p q =
-    let all : take 4 array ≡ array = take_all 4 array (omega arith) in
-    let grown : row_bytes 1 player array seeds ≡ (byte ∷ []) ++ held_seeds player (take 4 array) seeds = rw (all, last_four player 0 array is (omega arith)) in
-    wrote_more (byte ∷ []) (held_seeds player (take 4 array) seeds) (row_bytes 1 player array seeds) grown room p q
+    let grown : row_bytes 1 player array seeds ≡ (byte ∷ []) ++ held_seeds player array seeds = rw (last_four player 0 array is (omega arith)) in
+    wrote_more (byte ∷ []) (held_seeds player array seeds) (row_bytes 1 player array seeds) grown room p q
 
 -- grid row g of a player's key
 unfoldable pub row_at : (g : ℕ) → Board → (player : ℕ) → (arrays seeds : List ℕ) → List ℕ

@@ -4,7 +4,7 @@ use mathlib.Core.Bool.{true}
 use mathlib.Core.List.{List, [], ◌++◌}
 use Prim.Native.Nat.{ℕ, zero, suc, ◌+◌, ◌*◌, ◌-◌, ◌/◌, ◌%◌, ◌≤◌, ◌<◌}
 use native.Mathlib.Omega.{arith}
-use native.Mathlib.Nat.{mul-le-mul_right}
+use native.Mathlib.Nat.{mul-le-mul, mul-le-mul_right, add-div_left, div-eq_of_lt, mul-div_cancel}
 use native.Mathlib.Numerals.{add-one}
 use lib.ListN.{length, get_or, take, drop, replicate, length-append, length-drop, length-replicate, replicate-append-replicate}
 use lib.Seq.{take_at, drop_at, drop-drop, length-take-le}
@@ -48,21 +48,22 @@ pub piece_put : (from n : ℕ) (value : List ℕ) → from + length value ≤ n 
 piece_put from n value h {at} put clear place =
     put ∙ ap (written at value) clear ∙ ap (λ (k : ℕ). written k value (replicate n 0)) place ∙ piece_written from n value h
 
--- ONE MORE WORD
+-- WORDS one after another
 
-xor_words_snoc : (k n : ℕ) (bs xs : List ℕ) → xor_all (words_from (suc k) n bs) xs ≡ xors (xor_all (words_from k n bs) xs) (take n (drop (k * n) bs))
+-- the next one, and those behind it
+pub next_word : (n : ℕ) (all word rest xs : List ℕ) → 0 < n → all ≡ word ++ rest → length word ≡ n →
+    xor_all (words_from (length all / n) n all) xs ≡ xor_all (words_from (length rest / n) n rest) (xors xs word)
 unfolding xor_all words_from
-xor_words_snoc zero n bs xs =
-    let none : zero * n ≡ zero = omega arith in
-    rw none
-xor_words_snoc (suc k) n bs xs =
-    let next : n + k * n ≡ suc k * n = omega arith in
-    xor_words_snoc k n (drop n bs) (xors xs (take n bs))
-    ∙ ap (λ (l : List ℕ). xors (xor_all (words_from k n (drop n bs)) (xors xs (take n bs))) (take n l)) (drop-drop (k * n) n bs ∙ ap (λ (m : ℕ). drop m bs) next)
+next_word n all word rest xs pos parts long =
+    let more : length all / n ≡ suc (length rest / n) = rw (parts, length-append, long) (add-div_left (length rest) pos ∙ add-one _) in
+    rw more (rw (parts, take_at word rest n long, drop_at word rest n long))
 
-pub words_turn : (k n : ℕ) (bs xs : List ℕ) {out now : List ℕ} → out ≡ xor_all (words_from k n bs) xs → now ≡ xors out (take n (drop (k * n) bs)) →
-    now ≡ xor_all (words_from (k + 1) n bs) xs
-words_turn k n bs xs so_far is = is ∙ rw (so_far, add-one) (sym (xor_words_snoc k n bs xs))
+-- none where less than one is left
+pub no_word : (n : ℕ) (rest xs : List ℕ) → length rest < n → xor_all (words_from (length rest / n) n rest) xs ≡ xs
+unfolding xor_all words_from
+no_word n rest xs h =
+    let none : length rest / n ≡ 0 = div-eq_of_lt h in
+    rw none
 
 -- ROWS one after another, into what is there
 
@@ -108,6 +109,11 @@ module _ (b : Board) (f : BoardIn b) (a : ℕ) (value seeds words : List ℕ) (w
   pub cell_room : a % b.wide * b.w + length value ≤ row_long b
   cell_room = omega (arith, cell_fits b (a % b.wide) (cell_in b f a))
 
+  -- a row has a byte
+  pub row_pos : 0 < row_long b
+  unfolding row_long
+  row_pos = mul-le-mul f.wide_least f.value_least
+
   -- the seeds of the point's grid row are there
   pub seeds_room : a / b.wide * columns b + columns b ≤ grid_rows b * columns b
   seeds_room = omega (arith, mul-le-mul_right (columns b) (grid_row_in b f a within))
@@ -131,14 +137,16 @@ module _ (b : Board) (f : BoardIn b) (a : ℕ) (value seeds words : List ℕ) (w
 
   -- the same in the numbers that the code has at hand
   pub word_steps : (first second third J : ℕ) → first ≡ row_long b → second ≡ row_long b → third ≡ row_long b → J ≡ columns b →
+      length words ≡ (columns b - 1) * row_long b →
       {piece_out words_out rows_out : List ℕ} →
       piece_out ≡ zeros (a % b.wide * b.w) ++ value ++ zeros (first - (a % b.wide * b.w + length value)) →
-      words_out ≡ xor_all (words_from (J - 1) second words) piece_out →
+      words_out ≡ xor_all (words_from (length words / second) second words) piece_out →
       32 * (a / b.wide * J) + 32 * J ≤ length seeds → length words_out ≡ third → bytes_good words_out ≡ true →
       rows_out ≡ xors words_out (rows_joined (length (cut J) / 32) 0 third (cut J)) → rows_out ≡ dealt_word b (rule b) a value seeds words
-  word_steps first second third J e f g h {piece_out} {words_out} {rows_out} p q room long good r =
+  word_steps first second third J e f g h words_all {piece_out} {words_out} {rows_out} p q room long good r =
+      let count : length words / row_long b ≡ columns b - 1 = rw words_all (mul-div_cancel (columns b - 1) row_pos) in
       let rows = cut_rows (32 * (a / b.wide * J)) J third seeds words_out room (record { long = long; good = good }) in
-      word_made (rw e at p) (rw (h, f) at q) (rw (h, g) at (r ∙ rows))
+      word_made (rw e at p) (rw (f, count) at q) (rw (h, g) at (r ∙ rows))
 
   -- a value between zeros has a row's length
   between_zeros : length (zeros (a % b.wide * b.w) ++ value ++ zeros (row_long b - (a % b.wide * b.w + length value))) ≡ row_long b

@@ -2,9 +2,9 @@
 // there XOR to the piece. Assumes nothing.
 #![tactic(auto)]
 
-ghost use Rattle.std.specs.Prelude.{◌≡◌, ◌++◌, ◌+◌, ◌*◌, ◌-◌, ◌≤◌, ◌<◌, length};
+ghost use Rattle.std.specs.Prelude.{◌≡◌, ◌++◌, ◌+◌, ◌-◌, ◌/◌, ◌≤◌, ◌<◌, length};
 ghost use Rattle.xor.specs.Xor.{zeros};
-ghost use Rattle.grid.specs.Grid.{board_refusal, columns, row_long, xor_all, seeds_long, words_long};
+ghost use Rattle.grid.specs.Grid.{row_long, xor_all, seeds_long, words_long};
 ghost use Rattle.grid.specs.Code.{board_of};
 ghost use Rattle.keys.specs.Keys.{words_from};
 ghost use Rattle.writer.specs.Written.{Wrote};
@@ -23,30 +23,27 @@ fn put_piece(out: &mut [u8], from: usize, value: &[u8])
     writer::put(out, from, value);
 }
 
-// XORs `count` words that stand one after another into `out`, which is as long as each of them.
-fn xor_words(out: &mut [u8], count: usize, words: &[u8])
-    requires { count * length out.old ≤ length words.now }
-    ensures { out.new ≡ xor_all (words_from count (length out.old) words.now) out.old }
+// XORs the words that stand one after another into `out`, which is as long as each of them.
+fn xor_words(out: &mut [u8], words: &[u8])
+    requires { 0 < length out.old }
+    ensures { out.new ≡ xor_all (words_from (length words.now / length out.old) (length out.old) words.now) out.old }
 {
-    let row_length = out.len();
-    let mut word: usize = 0;
-    while word < count {
-        let from = word * row_length;
-        let end = from + row_length;
-        xor::xor_into(out, &words[from..end]);
-        word += 1;
+    for word in words.chunks_exact(out.len()) {
+        xor::xor_into(out, word);
     }
 }
 
+// The parts one by one, here and below, and no `Dealing`: of the arrays nothing goes into the last word, so that it is lent none (docs/DECISIONS.md).
 // Fills `out` with the last word.
 fn last_word(out: &mut [u8], board: Board, point: u32, value: &[u8], seeds: &[u8], words: &[u8])
-    requires { (board_refusal (board_of board) ≡ 0) × (point < board.positions) × (length value.now ≡ board.value_bytes) × (length seeds.now ≡ seeds_long (board_of board)) × (length words.now ≡ words_long (board_of board)) × (length out.old ≡ row_long (board_of board)) }
+    requires { (point < board.positions) × (length value.now ≡ board.value_bytes) × (length seeds.now ≡ seeds_long (board_of board))
+        × (length words.now ≡ words_long (board_of board)) × (length out.old ≡ row_long (board_of board)) }
     ensures { out.new ≡ dealt_word (board_of board) (rule (board_of board)) point value.now seeds.now words.now }
 {
     let columns = board.columns();
     let cell = (point % board.width * board.value_bytes) as usize;
     put_piece(out, cell, value);
-    xor_words(out, columns - 1, words);
+    xor_words(out, words);
     let from = SEED_BYTES * ((point / board.width) as usize * columns);
     let end = from + SEED_BYTES * columns;
     xor_rows(&seeds[from..end], 0, out);
@@ -62,7 +59,8 @@ pub fn put_last_word(
     seeds: &[u8],
     words: &[u8],
 ) -> usize
-    requires { (board_refusal (board_of board) ≡ 0) × (point < board.positions) × (length value.now ≡ board.value_bytes) × (length seeds.now ≡ seeds_long (board_of board)) × (length words.now ≡ words_long (board_of board)) × (at + row_long (board_of board) ≤ length out.old) }
+    requires { (point < board.positions) × (length value.now ≡ board.value_bytes) × (length seeds.now ≡ seeds_long (board_of board))
+        × (length words.now ≡ words_long (board_of board)) × (at + row_long (board_of board) ≤ length out.old) }
     ensures { Wrote at (dealt_word (board_of board) (rule (board_of board)) point value.now seeds.now words.now) result out.old out.new }
 {
     let end = at + board.row_length();

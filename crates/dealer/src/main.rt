@@ -5,6 +5,7 @@
 
 use full_read::read_full;
 
+// Input and output are buffers with a count beside them: memory is fixed, and nothing is put on a heap. The joiner's has a table too.
 fn main(rt: HostRuntime) -> std::io::Result<()> {
     let mut input = program_output::input_buffer();
     let count = read_full(&mut rt.reader(), &mut input)?;

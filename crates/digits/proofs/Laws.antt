@@ -1,15 +1,15 @@
 -- The laws of digits: a number's, the last one apart, and in places; bytes in hexadecimal, one more. Assumes nothing.
-use mathlib.Core.Path.{◌≡◌, refl, sym, ap, ◌∙◌, subst}
+use mathlib.Core.Path.{◌≡◌, refl, sym, ap, ◌∙◌}
 use mathlib.Core.Bool.{Bool, true, false, cond}
 use mathlib.Core.List.{List, [], ◌∷◌, ◌++◌, append_assoc}
 use Prim.Native.Nat.{ℕ, zero, suc, ◌+◌, ◌*◌, ◌-◌, ◌/◌, ◌%◌, ◌≤◌, ◌<◌}
 use native.Mathlib.Omega.{arith}
 use native.Mathlib.Numerals.{add-one}
-use lib.Dec.{T, ltb, eqb, eqb→eq}
+use lib.Dec.{ltb, eqb, eqb→eq}
 use lib.ListN.{length, get_or, take, replicate, length-append, length-replicate, replicate-append-replicate}
 use lib.Seq.{length-take-le}
 use borrow.Author.Tests.{lt-ltb, le-ltb, ltb-true, ltb-false, eq-eqb, ne_eqb}
-use Rattle.xor.proofs.Table.{at, every}
+use Rattle.xor.proofs.Table.{at}
 use Rattle.writer.specs.Written.{Wrote}
 use Rattle.writer.proofs.Laws.{wrote_then, wrote_more}
 use Rattle.digits.specs.Digits.{digits, decimal, spaces, right_aligned, hex_digit, hex}
@@ -156,13 +156,6 @@ five_places v most fits =
     let b : v / 100 / 10 ≡ v / 1000 = omega arith in
     let c : v / 1000 / 10 ≡ v / 10000 = omega arith in
     rw (aligned_last 4 v most fits, a, b, c)
-
--- what the code finds for a place
-pub blank_place : (v byte : ℕ) → v ≡ 0 → byte ≡ 32 → byte ≡ in_place v
-blank_place v byte h e = rw (eq-eqb v 0 h) e
-
-pub digit_place : (v byte : ℕ) → (v ≡ 0 → ⊥) → byte ≡ 48 + v % 10 → byte ≡ in_place v
-digit_place v byte h e = rw (ne_eqb v 0 h) e
 
 -- five bytes written one behind another
 pub wrote_five : (v : ℕ) {at a b c d next : ℕ} (first second third fourth fifth : ℕ) {old one two three four now : List ℕ} →

@@ -9,6 +9,7 @@ ghost use Rattle.digits.specs.Digits.{decimal, right_aligned, hex};
 
 use writer::put_byte;
 
+// By hand, here and below: the library writes digits by `fmt` into a `Write`, and no clause says which; these go to a place of a slice, and their clauses do.
 // Writes a number in decimal, unpadded.
 pub fn put_decimal(out: &mut [u8], at: usize, number: u32) -> usize
     requires { at + length (decimal number) ≤ length out.old }
@@ -31,6 +32,7 @@ fn digit_or_space(number: u32) -> u8
     (48 + number % 10) as u8
 }
 
+// Four calls and no `for` over four powers of ten: the last place has a digit of 0 too, so that it stands by itself in either form.
 // Writes a number in five places, right-aligned.
 pub fn put_in_five_places(out: &mut [u8], at: usize, number: u32) -> usize
     requires { (length (decimal number) ≤ 5) × (at + 5 ≤ length out.old) }
@@ -50,12 +52,9 @@ pub fn put_hex(out: &mut [u8], at: usize, bytes: &[u8]) -> usize
 {
     let digits = b"0123456789ABCDEF";
     let mut next = at;
-    let mut i: usize = 0;
-    while i < bytes.len() {
-        let byte = bytes[i] as usize;
-        next = put_byte(out, next, digits[byte / 16]);
-        next = put_byte(out, next, digits[byte % 16]);
-        i += 1;
+    for byte in bytes {
+        next = put_byte(out, next, digits[*byte as usize / 16]);
+        next = put_byte(out, next, digits[*byte as usize % 16]);
     }
     next
 }

@@ -10,16 +10,14 @@ use std::{fs, io};
 
 // Opens a file to read. Where that fails, standard error has its name.
 pub fn opened<R: Eprint + Files>(rt: &R, path: &str) -> io::Result<R::File> {
-    match fs::open(rt, path) {
-        Ok(file) => Ok(file),
-        Err(error) => {
-            eprintln!(rt; "{path}: cannot be opened")?;
-            Err(error)
-        }
-    }
+    fs::open(rt, path).or_else(|error| {
+        eprintln!(rt; "{path}: cannot be opened")?;
+        Err(error)
+    })
 }
 
 // Reads until the buffer is full or the reader ends, and answers how many bytes stand at the buffer's front.
+// No method of `Read` does it without a heap: `read_exact` fails on a shorter input, and `read_to_end` wants a `Vec`.
 pub fn read_full<R: Read>(reader: &mut R, buffer: &mut [u8]) -> io::Result<usize>
     ensures { IfOk result (λ count. count ≤ length buffer.new) }
 {

@@ -17,7 +17,7 @@ use Rattle.grid.specs.Grid.{Board, columns, grid_rows, arrays_long, column, is_o
 use Rattle.grid.specs.Faults.{bit_beyond, wrong_parity, first_of, fits, column_fault, columns_before, fits_at, fault_at}
 use Rattle.grid.specs.Faults.{no_fault, fault_from, arrays_fault}
 use Rattle.grid.specs.Faults.{FaultWhereBad, FirstFault, PlaceIsFirst}
-use Rattle.grid.specs.declared.fault.Fault.{Fault}
+use Rattle.grid.specs.Faults.{Fault}
 use Rattle.grid.proofs.Columns.{parity_is, parity_fits}
 use Rattle.grid.proofs.Facts.{columns_pos, absent, not_member, ArraysIn, arrays_in, arrays_accepted}
 

@@ -1,6 +1,6 @@
 -- How large the grid of an accepted board can be, so that a caller's products fit.
 -- Assumes nothing.
-use Prim.Native.Nat.{◌-◌, ◌≤◌}
+use Prim.Native.Nat.{◌*◌, ◌-◌, ◌≤◌}
 use native.Mathlib.Nat.{mul-le-mul}
 use native.Mathlib.Omega.{arith}
 use lib.Pow.{pow_mono}
@@ -14,6 +14,9 @@ columns_few b f = let five : b.p - 1 ≤ 5 = omega arith in pow_mono five
 pub row_most : (b : Board) → BoardIn b → row_long b ≤ 4096
 unfolding row_long
 row_most b f = mul-le-mul f.wide_most f.value_most
+
+pub table_most : (b : Board) → BoardIn b → b.n * b.w ≤ 1048576
+table_most b f = mul-le-mul f.positions_most f.value_most
 
 pub arrays_most : (b : Board) → BoardIn b → arrays_long b ≤ 8192
 arrays_most b f = mul-le-mul f.rows_most (columns_few b f)

@@ -4,7 +4,6 @@
 use Rattle.std.specs.Prelude.{◌≡◌, Bool, true, false, ◌&&◌, not, cond, List, ℕ, zero, suc, ◌*◌, ◌/◌, ◌%◌, ◌^◌, ◌≤◌, ◌<◌, leb, eqb, length, take, drop}
 use Rattle.grid.specs.Grid.{Board, columns, grid_rows, arrays_long, column}
 use Rattle.grid.specs.Grid.{is_odd, same_parity, member, arrays_good}
-use Rattle.grid.specs.declared.fault.Fault.{Fault}
 
 -- AT ONE COLUMN of an array, by the columns that stand before it
 
@@ -49,6 +48,12 @@ fits_at b a cs g j n = fits b (eqb g (a / b.wide)) (columns_before b cs g j) (co
 
 unfoldable pub fault_at : Board → (point : ℕ) → (arrays : List ℕ) → (g j : ℕ) → ℕ
 fault_at b a cs g j = column_fault b (eqb g (a / b.wide)) (columns_before b cs g j) (column b cs g j)
+
+-- a fault's number, and the grid row and the column where it stands
+pub record Fault : Type 0 where
+  pub number : ℕ
+  pub grid_row : ℕ
+  pub column : ℕ
 
 -- no fault
 abbrev pub no_fault : Fault

@@ -1,10 +1,12 @@
-// A board's four numbers. Which boards are refused, by the numbers 1 to 5; and how many columns an array of an accepted board has, how
-// many grid rows it has, how many bytes a row has, and how long what Deal is lent is. Any four numbers may come in: what is computed from a number comes after the
-// test of its range, so nothing overflows and nothing is divided by zero.
-ghost use Rattle.std.specs.Prelude.{◌≡◌, ◌&&◌, ◌+◌, ◌-◌, ◌/◌, ◌^◌, ◌≤◌, leb};
+// A board's four numbers. Which are refused, by the numbers 1 to 5; and how many columns an array of a board has, how many grid rows it has,
+// how many bytes a row has, and how long what Deal is lent is. Any four numbers may come in: what is computed from a number comes after the
+// test of its range, so nothing overflows and nothing is divided by zero. That no refusal fits is known of a board by its type.
+ghost use Rattle.std.specs.Prelude.{◌≡◌, ◌&&◌, ◌+◌, ◌*◌, ◌-◌, ◌/◌, ◌^◌, ◌≤◌, leb, IfOk};
+ghost use Rattle.refusal.specs.Refusing.{answer_number};
 ghost use Rattle.grid.specs.Grid.{players_fit, positions_fit, width_fits, value_fits};
-ghost use Rattle.grid.specs.Grid.{board_refusal, columns, grid_rows, row_long, arrays_long, seeds_long, words_long};
-ghost use Rattle.grid.specs.Code.{board_of};
+ghost use Rattle.grid.specs.Grid.{board, board_refusal, columns, grid_rows, row_long, arrays_long, seeds_long, words_long};
+
+use refusal::Refusal;
 
 const LEAST_PLAYERS: u32 = 2;
 
@@ -18,25 +20,14 @@ const MOST_VALUE_BYTES: u32 = 16;
 
 pub const MOST_GRID_ROWS: u32 = 256;
 
-pub const ACCEPTED: u32 = 0;
-
-pub const REFUSED_PLAYERS: u32 = 1;
-
-pub const REFUSED_POSITIONS: u32 = 2;
-
-pub const REFUSED_WIDTH: u32 = 3;
-
-pub const REFUSED_VALUE_BYTES: u32 = 4;
-
-pub const REFUSED_GRID_ROWS: u32 = 5;
-
-// p, N, μ and w: players, positions, cells of a grid row, bytes of a value.
-#[derive(Clone, Copy)]
+// p, N, μ and w: players, positions, cells of a grid row, bytes of a value, that no refusal fits.
+#[derive(Clone, Copy, Debug, PartialEq, Eq)]
 pub struct Board {
     pub players: u32,
     pub positions: u32,
     pub width: u32,
     pub value_bytes: u32,
+    ghost accepted: { board_refusal (board players positions width value_bytes) ≡ 0 },
 }
 
 // Bytes of a seed.
@@ -46,7 +37,7 @@ pub const SEED_BYTES: usize = 32;
 pub fn within(low: u32, number: u32, high: u32) -> bool
     ensures { result ≡ (leb low number && leb number high) }
 {
-    if low <= number { number <= high } else { false }
+    low <= number && number <= high
 }
 
 // Whether there can be so many players.
@@ -77,6 +68,7 @@ pub fn value_bytes_fit(value_bytes: u32) -> bool
     within(1, value_bytes, MOST_VALUE_BYTES)
 }
 
+// Not a board's: it is asked before there is one, so its bounds are clauses.
 // Grid rows for so many positions: their number over the width, rounded up.
 pub fn grid_rows_for(positions: u32, width: u32) -> u32
     requires { (positions ≤ 65536) × (1 ≤ width) × (width ≤ 256) }
@@ -94,31 +86,38 @@ fn columns_for(players: u32) -> u32
 }
 
 impl Board {
-    // The first of 1 to 5 that fits, or 0.
-    pub fn refusal(self) -> u32
-        ensures { result ≡ board_refusal (board_of self) }
+    ghost use Rattle.grid.specs.Code.{board_of};
+
+    // The board of four numbers, or the first of 1 to 5 that fits.
+    pub fn new(players: u32, positions: u32, width: u32, value_bytes: u32) -> Result<Board, Refusal>
+        ensures refusal { answer_number result ≡ board_refusal (board players positions width value_bytes) }
+        ensures numbers { IfOk result (λ made. board_of made ≡ board players positions width value_bytes) }
     {
-        if !players_fit(self.players) {
-            return REFUSED_PLAYERS;
+        if !players_fit(players) {
+            return Err(Refusal::Players);
         }
-        if !positions_fit(self.positions) {
-            return REFUSED_POSITIONS;
+        if !positions_fit(positions) {
+            return Err(Refusal::Positions);
         }
-        if !width_fits(self.width) {
-            return REFUSED_WIDTH;
+        if !width_fits(width) {
+            return Err(Refusal::Width);
         }
-        if !value_bytes_fit(self.value_bytes) {
-            return REFUSED_VALUE_BYTES;
+        if !value_bytes_fit(value_bytes) {
+            return Err(Refusal::ValueBytes);
         }
-        if MOST_GRID_ROWS < grid_rows_for(self.positions, self.width) {
-            return REFUSED_GRID_ROWS;
+        if MOST_GRID_ROWS < grid_rows_for(positions, width) {
+            return Err(Refusal::GridRows);
         }
-        ACCEPTED
+        Ok(Board {
+            players,
+            positions,
+            width,
+            value_bytes,
+        })
     }
 
     // Columns of an array: J.
     pub fn columns(self) -> usize
-        requires { board_refusal (board_of self) ≡ 0 }
         ensures { result ≡ columns (board_of self) }
     {
         columns_for(self.players) as usize
@@ -126,7 +125,6 @@ impl Board {
 
     // Grid rows: ν.
     pub fn grid_rows(self) -> usize
-        requires { board_refusal (board_of self) ≡ 0 }
         ensures { result ≡ grid_rows (board_of self) }
     {
         grid_rows_for(self.positions, self.width) as usize
@@ -134,14 +132,20 @@ impl Board {
 
     // Bytes of a row or of a word: μ × w.
     pub fn row_length(self) -> usize
-        requires { board_refusal (board_of self) ≡ 0 }
         ensures { result ≡ row_long (board_of self) }
     {
         (self.width * self.value_bytes) as usize
     }
+
+    // Bytes of a table: an entry for each position.
+    pub fn table_length(self) -> usize
+        ensures { result ≡ self.positions * self.value_bytes }
+    {
+        (self.positions * self.value_bytes) as usize
+    }
+
     // Bytes of all arrays: a column is a byte.
     pub fn arrays_length(self) -> usize
-        requires { board_refusal (board_of self) ≡ 0 }
         ensures { result ≡ arrays_long (board_of self) }
     {
         self.grid_rows() * self.columns()
@@ -149,7 +153,6 @@ impl Board {
 
     // Bytes of all seeds: each column has one.
     pub fn seeds_length(self) -> usize
-        requires { board_refusal (board_of self) ≡ 0 }
         ensures { result ≡ seeds_long (board_of self) }
     {
         SEED_BYTES * self.arrays_length()
@@ -157,7 +160,6 @@ impl Board {
 
     // Bytes of the lent words: all but the last.
     pub fn words_length(self) -> usize
-        requires { board_refusal (board_of self) ≡ 0 }
         ensures { result ≡ words_long (board_of self) }
     {
         (self.columns() - 1) * self.row_length()

@@ -16,7 +16,7 @@ use lib.Seq.{take-suc, get_or-drop}
 use borrow.Author.Tests.{le-leb, lt-leb}
 use Rattle.grid.specs.Grid.{Board, board_refusal, columns, grid_rows, arrays_long, column, member}
 use Rattle.grid.specs.Faults.{wrong_parity, column_fault, columns_before, no_fault, fault_at, fault_from, arrays_fault}
-use Rattle.grid.specs.declared.fault.Fault.{Fault}
+use Rattle.grid.specs.Faults.{Fault}
 use Rattle.grid.proofs.Counting.{one_left}
 use Rattle.grid.proofs.Facts.{board_in, column_most}
 use Rattle.grid.proofs.Powers.{shifted_one}
@@ -50,10 +50,6 @@ shift_fits b c accepted low =
     let most = column_most b (board_in b accepted) in
     let few = (board_in b accepted).players_most in
     omega (arith, shifted_one 32 b.p (omega arith))
-
--- a column of a grid row's array is one of the arrays
-pub column_inside : (b : Board) (long g j wide : ℕ) → wide ≡ columns b → long ≡ arrays_long b → g < grid_rows b → j < wide → g * wide + j < long
-column_inside b long g j wide is_wide is_long below inside = rw (is_wide, is_long) (digits_lt below (omega arith))
 
 -- COLUMN BY COLUMN: a turn at place j of grid row g, whose array has `wide` columns. By the columns seen before, `n` was told of the one there.
 

@@ -12,15 +12,14 @@ use lib.ListN.{length, take, drop, length-drop}
 use lib.Seq.{drop-drop, length-take-le}
 use Rattle.xor.proofs.Laws.{and_left, and_right}
 use Rattle.writer.proofs.Laws.{in_front_part}
-use Rattle.grid.specs.Grid.{Board, board, board_refusal, grid_rows}
+use Rattle.grid.specs.Grid.{Board, board, grid_rows}
 use Rattle.grid.specs.Code.{board_of}
 use Rattle.grid.specs.declared.board.Board as code
 use Rattle.grid.proofs.Facts.{board_in}
 use Rattle.keys.specs.Keys.{head_in, or_else, head_refusal, key_long, marks_good, AcceptedAs}
 use Rattle.keys.proofs.Accepted.{passed, last_passed, first_fits, next_fits, neither, head_fine, key_accepted}
-use Rattle.key_header.specs.Answers.{checked_by}
-use Rattle.key_header.specs.declared.Heading.{Heading}
-use Rattle.key_header.specs.declared.KeyCheck.{KeyCheck}
+use Rattle.key_header.specs.Answers.{KeyCheck, checked_by, heading_told}
+use Rattle.key_header.specs.declared.header.Heading.{Heading}
 use Rattle.key_header.proofs.Reading.{refused_says, accepted_says}
 use Rattle.key_lengths.proofs.Lengths.{long_is}
 use Rattle.call_answers.proofs.Answering.{put_number, put_done}
@@ -32,40 +31,17 @@ board_by : {p n m w p' n' m' w' : ℕ} → p ≡ p' → n ≡ n' → m ≡ m' �
     → ◌≡◌ {A = Board} (record { p = p; n = n; wide = m; w = w }) (record { p = p'; n = n'; wide = m'; w = w' })
 board_by p n m w = cc
 
-module _ (b c : Board) where
-  pub other_players : (b.p ≡ c.p → ⊥) → false ≡ same_board b c
-  unfolding same_board
-  other_players h = rw (ne_eqb b.p c.p h)
-
-  pub other_positions : b.p ≡ c.p → (b.n ≡ c.n → ⊥) → false ≡ same_board b c
-  unfolding same_board
-  other_positions p h = rw (eq-eqb b.p c.p p, ne_eqb b.n c.n h)
-
-  pub other_width : b.p ≡ c.p → b.n ≡ c.n → (b.wide ≡ c.wide → ⊥) → false ≡ same_board b c
-  unfolding same_board
-  other_width p n h = rw (eq-eqb b.p c.p p, eq-eqb b.n c.n n, ne_eqb b.wide c.wide h)
-
-  pub same_but_bytes : b.p ≡ c.p → b.n ≡ c.n → b.wide ≡ c.wide → eqb b.w c.w ≡ same_board b c
-  unfolding same_board
-  same_but_bytes p n m = rw (eq-eqb b.p c.p p, eq-eqb b.n c.n n, eq-eqb b.wide c.wide m)
-
-  pub boards_same : same_board b c ≡ true → b ≡ c
-  unfolding same_board
-  boards_same h =
-      let p = eqb b.p c.p in
-      let n = eqb b.n c.n in
-      let m = eqb b.wide c.wide in
-      let w = eqb b.w c.w in
-      let left = and_left (p && n) (m && w) h in
-      let right = and_right (p && n) (m && w) h in
-      board_by (eqb-true b.p c.p (and_left p n left)) (eqb-true b.n c.n (and_right p n left)) (eqb-true b.wide c.wide (and_left m w right))
-      (eqb-true b.w c.w (and_right m w right))
-
-pub both_same : (s t r : Bool) → r ≡ s → r ≡ true → t ≡ (s && t)
-both_same s t r e h = let yes : s ≡ true = sym e ∙ h in rw yes
-
-pub first_other : (s t r : Bool) → r ≡ s → r ≡ false → false ≡ (s && t)
-first_other s t r e h = let no : s ≡ false = sym e ∙ h in rw no
+boards_same : (b c : Board) → same_board b c ≡ true → b ≡ c
+unfolding same_board
+boards_same b c h =
+    let p = eqb b.p c.p in
+    let n = eqb b.n c.n in
+    let m = eqb b.wide c.wide in
+    let w = eqb b.w c.w in
+    let left = and_left (p && n) (m && w) h in
+    let right = and_right (p && n) (m && w) h in
+    board_by (eqb-true b.p c.p (and_left p n left)) (eqb-true b.n c.n (and_right p n left)) (eqb-true b.wide c.wide (and_left m w right))
+    (eqb-true b.w c.w (and_right m w right))
 
 -- ONE KEY AT ITS PLACE
 
@@ -74,8 +50,8 @@ module _ (b : Board) (i : ℕ) (ks : List ℕ) where
   unfolding place_refusal
   place_header n e = let says = refused_says ks n _ e in sym (first_fits _ _ says.1 ∙ says.0)
 
-  module _ (h : Heading) (read : KeyCheck.Accepted h ≡ checked_by (head_refusal (head_in ks)) ks) (same : Bool)
-      (test : same ≡ (same_board (board_of h.header.board) b && eqb h.header.player i))
+  module _ (h : Heading) (read : KeyCheck.Accepted (heading_told h) ≡ checked_by (head_refusal (head_in ks)) ks) (same : Bool)
+      (test : same ≡ (same_board (board_of h.board) b && eqb h.player i))
     where
       chain : place_refusal b i ks ≡ cond (not same) 15 (cond (marks_good (grid_rows b) b (drop h.end ks)) 0 13)
       unfolding place_refusal
@@ -104,42 +80,45 @@ unfolding places_refusal
 places_step k i b bs = refl
 
 -- the keys before `place` are passed
-pub record Passed (p : ℕ) (b : Board) (bs : List ℕ) (place at : ℕ) : Type 0 where
-  pub few : place ≤ p
-  pub here : at ≡ place * key_long b
-  pub rest : places_refusal (p - place) place b (drop at bs) ≡ places_refusal p 0 b bs
+abbrev pub Passed : (p : ℕ) → Board → (bs : List ℕ) → (place long : ℕ) → Type 0
+Passed p b bs place long = places_refusal (p - place) place b (drop (place * long) bs) ≡ places_refusal p 0 b bs
 
-pub none_passed : (p : ℕ) (b : Board) (bs : List ℕ) → Passed p b bs 0 0
-none_passed p b bs = let all : p - 0 ≡ p = omega arith in record { few = omega arith; here = omega arith; rest = rw all }
+pub none_passed : (p : ℕ) (b : Board) (bs : List ℕ) (long : ℕ) → Passed p b bs 0 long
+none_passed p b bs long =
+    let all : p - 0 ≡ p = omega arith in
+    let first : 0 * long ≡ 0 = omega arith in
+    rw (all, first)
 
-module _ {p place at : ℕ} (b : Board) (bs : List ℕ) (before : Passed p b bs place at) (more : place < p) (long : ℕ) (k : long ≡ key_long b) where
-  key_part : (r : ℕ) → r ≡ place_refusal b place (take (at + long - at) (drop at bs)) → r ≡ place_refusal b place (take (key_long b) (drop at bs))
-  key_part r e = let wide : at + long - at ≡ key_long b = omega arith in rw wide at e
+module _ {p place : ℕ} (b : Board) (bs : List ℕ) (long : ℕ) (before : Passed p b bs place long) (more : place < p) (k : long ≡ key_long b) where
+  abbrev key_there : List ℕ
+  key_there = take (place * long + long - place * long) (drop (place * long) bs)
 
-  turn : places_refusal p 0 b bs ≡ or_else (place_refusal b place (take (key_long b) (drop at bs))) (places_refusal (p - suc place) (suc place) b (drop (at + long) bs))
+  turn : places_refusal p 0 b bs ≡ or_else (place_refusal b place key_there) (places_refusal (p - suc place) (suc place) b (drop (suc place * long) bs))
   turn =
+      let at = place * long in
+      let wide : at + long - at ≡ long = omega arith in
       let left : p - place ≡ suc (p - suc place) = omega arith in
-      sym before.rest ∙ rw (left, places_step (p - suc place) place b (drop at bs), drop-drop (key_long b) at bs, k)
+      let next : at + long ≡ suc place * long = omega arith in
+      sym before ∙ rw (left, places_step (p - suc place) place b (drop at bs), wide, ← k, drop-drop long at bs, next)
 
-  pub turn_refused : (r : ℕ) → r ≡ place_refusal b place (take (at + long - at) (drop at bs)) → (r ≡ 0 → ⊥) → r ≡ places_refusal p 0 b bs
-  turn_refused r e z = let here = key_part r e in here ∙ sym (first_fits _ _ (λ q. z (here ∙ q))) ∙ sym turn
+  pub turn_refused : (r : ℕ) → r ≡ place_refusal b place key_there → (r ≡ 0 → ⊥) → r ≡ places_refusal p 0 b bs
+  turn_refused r e z = e ∙ sym (first_fits _ _ (λ q. z (e ∙ q))) ∙ sym turn
 
-  pub turn_passed : (r : ℕ) → r ≡ place_refusal b place (take (at + long - at) (drop at bs)) → r ≡ 0 → Passed p b bs (place + 1) (at + long)
-  turn_passed r e z =
+  pub turn_passed : 0 ≡ place_refusal b place key_there → Passed p b bs (place + 1) long
+  turn_passed e =
       let next : place + 1 ≡ suc place = omega arith in
-      record {
-        few = omega arith;
-        here = rw next (omega (arith, before.here, k));
-        rest = rw next (sym (next_fits (place_refusal b place (take (key_long b) (drop at bs))) _ (sym (key_part r e) ∙ z)) ∙ sym turn);
-      }
+      rw next (sym (next_fits (place_refusal b place key_there) _ (sym e)) ∙ sym turn)
 
 -- the next key stands among the keys
-pub key_inside : {p place at long : ℕ} (b : Board) (bs : List ℕ) → Passed p b bs place at → place < p → long ≡ key_long b → length bs ≡ p * key_long b → at + long ≤ length bs
-key_inside b bs before more k whole = omega (arith, before.here, mul-le-mul_right (key_long b) more)
+pub key_inside : {p place long : ℕ} (b : Board) (bs : List ℕ) → place < p → long ≡ key_long b → length bs ≡ p * key_long b → place * long + long ≤ length bs
+key_inside {p} {place} {long} b bs more k whole =
+    let last : suc place * long ≤ p * long = mul-le-mul_right long more in
+    let all : length bs ≡ p * long = whole ∙ ap (λ (n : ℕ). p * n) (sym k) in
+    omega (arith, last, all)
 
-pub all_passed : {p place at : ℕ} (b : Board) (bs : List ℕ) → Passed p b bs place at → p ≤ place → 0 ≡ places_refusal p 0 b bs
+pub all_passed : {p place : ℕ} (b : Board) (bs : List ℕ) (long : ℕ) → Passed p b bs place long → p ≤ place → 0 ≡ places_refusal p 0 b bs
 unfolding places_refusal
-all_passed {p} {place} b bs before h = let none : p - place ≡ 0 = omega arith in rw none at before.rest
+all_passed {p} {place} b bs long before h = let none : p - place ≡ 0 = omega arith in rw none at before
 
 -- where none is refused, each key at its place is an accepted key of the first one's board and of its place's player
 pub place_accepted : (b : Board) (i : ℕ) (ks : List ℕ) → place_refusal b i ks ≡ 0 → length ks ≡ key_long b
@@ -181,20 +160,15 @@ places_each (suc k) i b bs none (suc m) h =
     rw (next, further, ← (drop-drop (m * key_long b) (key_long b) bs))
     (places_each k (suc i) b (drop (key_long b) bs) (neither _ _ (sym (places_step k i b bs) ∙ none)).1 m (omega arith))
 
--- the key before `end`, counted from the last one down
-pub key_before : (b : Board) (bs : List ℕ) (p left long end : ℕ) → length bs ≡ p * key_long b → places_refusal p 0 b bs ≡ 0 → long ≡ key_long b
-    → 0 < left → left ≤ p → end ≡ left * long → AcceptedAs b (left - 1) (take (end - (end - long)) (drop (end - long) bs))
-key_before b bs p zero long end whole none k pos le e = let no : ⊥ = omega arith in absurd no
-key_before b bs p (suc m) long end whole none k pos le e =
-    let room : suc m * key_long b ≤ p * key_long b = mul-le-mul_right (key_long b) le in
-    let last : end ≡ suc m * key_long b = rw k at e in
-    let wide : end - (end - long) ≡ key_long b = omega arith in
-    let start : end - long ≡ m * key_long b = omega arith in
-    let before : suc m - 1 ≡ m = omega arith in
-    let here : 0 + m ≡ m = omega arith in
-    rw (wide, start, before)
-    (place_accepted b m (take (key_long b) (drop (m * key_long b) bs)) (rw here at (places_each p 0 b bs none m (omega arith)))
-    (length-take-le (key_long b) (drop (m * key_long b) bs) (rw length-drop (omega (arith, whole)))))
+-- each key, by its place
+pub key_at : (b : Board) (bs : List ℕ) (p i long : ℕ) → length bs ≡ p * key_long b → places_refusal p 0 b bs ≡ 0 → long ≡ key_long b
+    → i < p → AcceptedAs b i (take long (drop (i * long) bs))
+key_at b bs p i long whole none k h =
+    let room : suc i * key_long b ≤ p * key_long b = mul-le-mul_right (key_long b) h in
+    let here : 0 + i ≡ i = omega arith in
+    rw k
+    (place_accepted b i (take (key_long b) (drop (i * key_long b) bs)) (rw here at (places_each p 0 b bs none i h))
+    (length-take-le (key_long b) (drop (i * key_long b) bs) (rw length-drop (omega (arith, whole, room)))))
 
 -- THE WHOLE CHAIN
 
@@ -203,10 +177,6 @@ unfolding keys_refusal
 keys_header bs room n e = let says = refused_says bs n _ e in (first_fits _ _ says.1 ∙ says.0, λ z. says.1 (says.0 ∙ z))
 
 module _ (bs : List ℕ) (c : code.Board) (own : head_refusal (head_in bs) ≡ 0) (board_is : (head_in bs).board ≡ board_of c) (room : ℕ) where
-  -- the first header's board is accepted
-  pub first_board : board_refusal (board_of c) ≡ 0
-  first_board = rw (← board_is) (head_fine (head_in bs) own).1
-
   whole : keys_refusal bs room
       ≡ cond (not (eqb (length bs) (c.players * key_long (board_of c)))) 12
       (or_else (places_refusal c.players 0 (board_of c) bs) (cond (ltb room (c.positions * c.value_bytes)) 9 0))

@@ -7,14 +7,13 @@ use native.Mathlib.Omega.{arith}
 use borrow.Author.Tests.{eq-eqb, ne_eqb, eqb-true, not-true, not-false}
 use lib.Dec.{eqb}
 use lib.ListN.{length, drop}
-use Rattle.grid.specs.Grid.{board, board_refusal, grid_rows}
+use Rattle.grid.specs.Grid.{grid_rows}
 use Rattle.grid.specs.Code.{board_of}
-use Rattle.grid.proofs.Facts.{board_in, board_accepted}
+use Rattle.grid.proofs.Facts.{board_in}
 use Rattle.keys.specs.Keys.{head_in, head_refusal, key_long, marks_good, key_refusal}
-use Rattle.keys.proofs.Accepted.{first_fits, next_fits, head_fine, key_in}
-use Rattle.key_header.specs.Answers.{header_of, header_numbers, heading_in, checked_by}
-use Rattle.key_header.specs.declared.Heading.{Heading}
-use Rattle.key_header.specs.declared.KeyCheck.{KeyCheck}
+use Rattle.keys.proofs.Accepted.{first_fits, next_fits, head_fine}
+use Rattle.key_header.specs.Answers.{KeyCheck, header_of, header_numbers, heading_in, heading_told, checked_by}
+use Rattle.key_header.specs.declared.header.Heading.{Heading}
 use Rattle.key_header.proofs.Reading.{Says, refused_by, refused_says, heading_same, accepted_says, accepted_by}
 use Rattle.key_lengths.proofs.Lengths.{long_is}
 use Rattle.key_check.specs.Checked.{head_numbers, checked_as, key_checked}
@@ -27,16 +26,12 @@ module _ (ks : List ℕ) where
       let says = refused_says ks n _ e in
       refused_by ks n _ (sym says.0 ∙ sym (first_fits _ _ says.1)) (λ z. says.1 (says.0 ∙ z))
 
-  module _ (h : Heading) (read : KeyCheck.Accepted h ≡ checked_by (head_refusal (head_in ks)) ks) where
+  module _ (h : Heading) (read : KeyCheck.Accepted (heading_told h) ≡ checked_by (head_refusal (head_in ks)) ks) where
     says : Says (head_refusal (head_in ks)) ks h
     says = accepted_says ks h _ read
 
-    -- the board that the length is asked for is accepted
-    pub header_board : board_refusal (board_of h.header.board) ≡ 0
-    header_board = rw (← says.board_is) (head_fine (head_in ks) says.none).1
-
-    chain : key_refusal ks ≡ cond (not (eqb (length ks) (key_long (board_of h.header.board)))) 12
-        (cond (marks_good (grid_rows (board_of h.header.board)) (board_of h.header.board) (drop h.end ks)) 0 13)
+    chain : key_refusal ks ≡ cond (not (eqb (length ks) (key_long (board_of h.board)))) 12
+        (cond (marks_good (grid_rows (board_of h.board)) (board_of h.board) (drop h.end ks)) 0 13)
     unfolding key_refusal
     chain =
         let own = head_fine (head_in ks) says.none in
@@ -44,12 +39,12 @@ module _ (ks : List ℕ) where
         let small : (head_in ks).player < 128 = omega (arith, own.2) in
         next_fits (head_refusal (head_in ks)) _ says.none ∙ rw (long_is (head_in ks).board (head_in ks).player small, says.board_is, says.rest_is)
 
-    module _ (long : ℕ) (k : long ≡ key_long (board_of h.header.board)) where
+    module _ (long : ℕ) (k : long ≡ key_long (board_of h.board)) where
       pub refused_length : (length ks ≡ long → ⊥) → KeyCheck.Refused 12 ≡ checked_by (key_refusal ks) ks
       refused_length z = refused_by ks 12 _ (sym (chain ∙ rw (← k, ne_eqb (length ks) long z))) (λ q. omega arith)
 
       module _ (same : length ks ≡ long) (part : List ℕ) (cut : part ≡ drop h.end ks)
-          (marks : Bool) (seen : marks ≡ marks_good (grid_rows (board_of h.header.board)) (board_of h.header.board) part)
+          (marks : Bool) (seen : marks ≡ marks_good (grid_rows (board_of h.board)) (board_of h.board) part)
         where
           chain_marks : key_refusal ks ≡ cond marks 0 13
           chain_marks = chain ∙ rw (← k, eq-eqb (length ks) long same, ← cut, ← seen)
@@ -57,7 +52,7 @@ module _ (ks : List ℕ) where
           pub refused_marks : not marks ≡ true → KeyCheck.Refused 13 ≡ checked_by (key_refusal ks) ks
           refused_marks z = refused_by ks 13 _ (sym (chain_marks ∙ rw (not-true marks z))) (λ q. omega arith)
 
-          pub accepted_key : not marks ≡ false → KeyCheck.Accepted h ≡ checked_by (key_refusal ks) ks
+          pub accepted_key : not marks ≡ false → KeyCheck.Accepted (heading_told h) ≡ checked_by (key_refusal ks) ks
           accepted_key z = accepted_by ks h _ (chain_marks ∙ rw (not-false marks z)) (heading_same ks h _ read)
 
 -- WHAT THE ANSWER TELLS: the number, and where it is 0 the header's numbers
@@ -69,6 +64,3 @@ check_tells ks answer e = rw e (go (eqb (key_refusal ks) 0) refl)
         checked_as (cond t (KeyCheck.Accepted (heading_in ks)) (KeyCheck.Refused (key_refusal ks))) ≡ record { refusal = key_refusal ks; numbers = cond t (head_numbers (head_in ks)) [] }
     go true zero_is = let none : key_refusal ks ≡ 0 = eqb-true (key_refusal ks) 0 zero_is in rw none
     go false some = refl
-
-pub board_fine : (ks : List ℕ) (h : Heading) → Says (key_refusal ks) ks h → board_refusal (board_of h.header.board) ≡ 0
-board_fine ks h a = rw (← a.board_is) (board_accepted (head_in ks).board (key_in ks a.none).board)

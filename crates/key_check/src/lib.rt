@@ -2,5 +2,6 @@
 // The lent keys are bytes of every kind: neither `check_key` nor `held_seed` requires anything of them. Assumes nothing.
 #![tactic(auto)]
 
+pub mod body;
 pub mod check;
 pub mod held;

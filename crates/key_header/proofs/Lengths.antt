@@ -11,12 +11,11 @@ use lib.Seq.{take_all}
 use Rattle.writer.specs.Written.{Wrote}
 use Rattle.writer.proofs.Laws.{wrote_more}
 use Rattle.grid.specs.Grid.{Board, board, board_refusal}
-use Rattle.grid.specs.Code.{board_of}
 use Rattle.grid.proofs.Facts.{board_in}
 use Rattle.keys.specs.Keys.{groups, number_bytes, numbers_written, header}
 use Rattle.keys.proofs.Numbers.{one_group, two_groups, header_is, written_next, written_most}
-use Rattle.key_header.specs.Answers.{header_numbers, header_written}
-use Rattle.key_header.specs.declared.Header.{Header}
+use Rattle.key_header.specs.Answers.{header_numbers, header_board, header_told, header_written}
+use Rattle.key_header.specs.declared.header.Header.{Header}
 
 pub one_long : (v : ℕ) → v < 128 → length (number_bytes v) ≡ 1
 one_long v h = rw (one_group v h)
@@ -64,17 +63,22 @@ header_most b i =
 
 pub header_short : {r : ℕ} (h : Header) → r ≡ length (header_written h) → r ≤ 15
 unfolding header_written
-header_short h e = omega (arith, header_most (board_of h.board) h.player)
+header_short h e = omega (arith, header_most (header_board h) h.player)
+
+-- the header of a board and of a player
+pub header_for : (h : Header) (b : Board) (i : ℕ) → header_board h ≡ b → h.player ≡ i → header_written h ≡ header b i
+unfolding header_written
+header_for h b i e f = rw (e, f)
 
 -- A HEADER BY ITS NUMBERS, in their order
 
-pub numbers_five : (h : Header) (values : List ℕ) → values ≡ header_numbers h → length values ≡ 5
+pub numbers_five : (h : Header) (values : List ℕ) → values ≡ header_numbers (header_told h) → length values ≡ 5
 unfolding header_numbers
 numbers_five h values e = rw e
 
-pub header_by : (h : Header) (values : List ℕ) → values ≡ header_numbers h → numbers_written values ≡ header_written h
+pub header_by : (h : Header) (values : List ℕ) → values ≡ header_numbers (header_told h) → numbers_written values ≡ header_written h
 unfolding header_numbers header_written board
-header_by h values e = rw e (header_is (board_of h.board) h.player)
+header_by h values e = rw e (header_is (header_board h) h.player)
 
 -- one number more
 pub next_length : (vs : List ℕ) (i long r : ℕ) → i < length vs → long ≡ length (numbers_written (take i vs)) → r ≡ length (number_bytes (get_or vs i 0)) →
@@ -87,7 +91,7 @@ pub all_numbers : (vs : List ℕ) (i : ℕ) → length vs ≡ 5 → 5 ≤ i → 
 all_numbers vs i long h = ap numbers_written (take_all i vs (omega arith))
 
 -- an accepted board's numbers have at most three groups
-pub numbers_small : (h : Header) → board_refusal (board_of h.board) ≡ 0 → h.player < 128 → (i : ℕ) → i < 5 → get_or (header_numbers h) i 0 < 2097152
+pub numbers_small : (h : Header) → board_refusal (header_board h) ≡ 0 → h.player < 128 → (i : ℕ) → i < 5 → get_or (header_numbers (header_told h)) i 0 < 2097152
 unfolding header_numbers board
 numbers_small h r p zero l = omega (arith, (board_in _ r).players_most)
 numbers_small h r p (suc zero) l = omega arith

@@ -6,22 +6,28 @@ use mathlib.Core.List.{List, [], ◌∷◌, ◌++◌, append_assoc, append-nil}
 use Prim.Native.Nat.{ℕ, zero, suc, ◌+◌, ◌*◌, ◌-◌, ◌≤◌, ◌<◌}
 use native.Mathlib.Nat.{sub-zero}
 use native.Mathlib.Omega.{arith}
+use Rattle.std.proofs.Common.{Result, Ok, Err}
+use Rattle.std.specs.Result.{result_or}
+use borrow.Author.Rules.{rules}
 use borrow.Author.Tests.{lt-ltb, le-ltb, ltb-true, ltb-false, ne_eqb, eqb-true, eqb-false}
 use lib.Dec.{ltb, eqb}
 use lib.ListN.{length, get_or, set, take, drop, replicate, length-set, length-drop, length-append, take-append-drop, drop_of_length-le, get_or-eq_default}
 use lib.Seq.{drop-cons, drop-drop, drop-length, get_or-drop, take_at, drop_at, take_all, length-take-le, set_split, append_snoc}
 use Rattle.xor.specs.Xor.{bytes_good}
-use Rattle.grid.specs.Grid.{board}
+use Rattle.refusal.specs.Refusing.{refusal_number}
+use Rattle.refusal.specs.declared.Refusal.{Refusal}
+use Rattle.refusal.proofs.Numbers.{number_some}
+use Rattle.grid.specs.Grid.{Board, board}
 use Rattle.grid.specs.Code.{board_of}
 use Rattle.keys.specs.Keys.{Got, got, none_got, number_in, Numbers, numbers_in, head_by_numbers, head_in, header, numbers_refusal, head_refusal}
 use Rattle.keys.proofs.Numbers.{head_is, header_again}
-use Rattle.key_header.specs.Answers.{number_of, number_at, read_as, five_at, header_of, heading_in, checked_by}
-use Rattle.key_header.specs.declared.numbers.Number.{Number}
+use Rattle.key_header.specs.Answers.{Heading as Told}
+use Rattle.key_header.specs.Answers.{Number, Five, KeyCheck, number_of, number_at, read_as, five_at, header_of, header_numbers, heading_in, checked_by}
+use Rattle.key_header.specs.Answers.{five_of, header_board, header_told, heading_told}
 use Rattle.key_header.specs.declared.numbers.Reader.{Reader}
-use Rattle.key_header.specs.declared.numbers.Five.{Five}
-use Rattle.key_header.specs.declared.Header.{Header}
-use Rattle.key_header.specs.declared.Heading.{Heading}
-use Rattle.key_header.specs.declared.KeyCheck.{KeyCheck}
+use Rattle.key_header.specs.declared.numbers.Five.{Five as Read5}
+use Rattle.key_header.specs.declared.header.Header.{Header}
+use Rattle.key_header.specs.declared.header.Heading.{Heading}
 
 -- a number by its first three bytes, where those past the end count as 0
 unfoldable grouped : (a b c : ℕ) → List ℕ → Got
@@ -320,6 +326,10 @@ pub heading_rest : (ks : List ℕ) → drop (heading_in ks).end ks ≡ (head_in 
 unfolding heading_in head_by_numbers Ends
 heading_rest ks = rw (head_is ks) (ends_numbers 5 ks)
 
+-- a heading by its board in document 03's words
+abbrev told : Board → (player end : ℕ) → Told
+told b i e = record { header = record { board = record { players = b.p; positions = b.n; width = b.wide; value_bytes = b.w }; player = i }; end = e }
+
 -- by what the code read
 module _ (ks : List ℕ) (f : Five) (read : f ≡ five_at ks) where
   -- the place behind them is inside, and what is left stands there
@@ -331,31 +341,44 @@ module _ (ks : List ℕ) (f : Five) (read : f ≡ five_at ks) where
   unfolding five_at Ends
   five_rest = rw read (ends_numbers 5 ks)
 
-  pub head_good : (head_in ks).good ≡ f.whole
+  abbrev read_board : Board
+  read_board = board (get_or f.values 0 0) (get_or f.values 2 0) (get_or f.values 3 0) (get_or f.values 4 0)
+
+  head_good : (head_in ks).good ≡ f.whole
   unfolding five_at head_by_numbers
   head_good = rw (head_is ks, read)
-
-  abbrev pub header_read : Header
-  header_read =
-      record {
-        board = record { players = get_or f.values 0 0; positions = get_or f.values 2 0; width = get_or f.values 3 0; value_bytes = get_or f.values 4 0 };
-        player = get_or f.values 1 0;
-      }
-
-  pub heading_read : record { header = header_read; end = f.end } ≡ heading_in ks
-  unfolding five_at head_by_numbers heading_in header_of board
-  heading_read = rw (head_is ks, read)
-
-  -- its numbers behind 10 are those of the header that was read
-  pub head_numbers : f.whole ≡ true → head_refusal (head_in ks) ≡ numbers_refusal (board_of header_read.board) header_read.player
-  unfolding head_refusal five_at head_by_numbers board
-  head_numbers whole =
-      let good : (head_in ks).good ≡ true = head_good ∙ whole in
-      rw good (rw (head_is ks, read))
 
   pub head_broken : f.whole ≡ false → head_refusal (head_in ks) ≡ 10
   unfolding head_refusal
   head_broken whole = let bad : (head_in ks).good ≡ false = head_good ∙ whole in rw bad
+
+  -- the numbers behind 10 are those of the board that was read
+  pub head_numbers : f.whole ≡ true → (b : Board) → b ≡ read_board → numbers_refusal b (get_or f.values 1 0) ≡ head_refusal (head_in ks)
+  unfolding head_refusal five_at head_by_numbers board
+  head_numbers whole b e =
+      let good : (head_in ks).good ≡ true = head_good ∙ whole in
+      rw (e, good) (rw (head_is ks, read))
+
+  pub heading_read : (h : Heading) → board_of h.board ≡ read_board → h.player ≡ get_or f.values 1 0 → h.end ≡ f.end → heading_told h ≡ heading_in ks
+  unfolding five_at head_by_numbers heading_in header_of board
+  heading_read h b i e = ap (λ (x : Board). told x h.player h.end) b ∙ rw (i, e) (rw (head_is ks, read))
+
+-- all five, or 10
+module _ (ks : List ℕ) (r : Result Read5 Read5) (read : five_of r ≡ five_at ks) where
+  pub one_broken : (refusal : Refusal) → Err refusal ≡ result_or r (Err Refusal.Number) → (refusal ≡ Refusal.Number) × ((five_at ks).whole ≡ false)
+  one_broken = go r read
+    where
+      go : (s : Result Read5 Read5) → five_of s ≡ five_at ks → (refusal : Refusal) → Err refusal ≡ result_or s (Err Refusal.Number)
+          → (refusal ≡ Refusal.Number) × ((five_at ks).whole ≡ false)
+      go (Ok f) e refusal is = absurd (search rules)
+      go (Err f) e refusal is = (search rules, ap (λ (five : Five). five.whole) (sym e))
+
+  pub all_five : (f : Read5) → Ok f ≡ result_or r (Err Refusal.Number) → five_of (Ok f) ≡ five_at ks
+  all_five = go r read
+    where
+      go : (s : Result Read5 Read5) → five_of s ≡ five_at ks → (f : Read5) → Ok f ≡ result_or s (Err Refusal.Number) → five_of (Ok f) ≡ five_at ks
+      go (Ok g) e f is = let same : f ≡ g = search rules in rw same e
+      go (Err g) e f is = absurd (search rules)
 
 -- WHAT A CHECK ANSWERS
 
@@ -363,9 +386,13 @@ pub refused_by : (ks : List ℕ) (n r : ℕ) → n ≡ r → (n ≡ 0 → ⊥) �
 unfolding checked_by
 refused_by ks n r e h = rw (← e, ne_eqb n 0 h)
 
-pub accepted_by : (ks : List ℕ) (h : Heading) (r : ℕ) → r ≡ 0 → h ≡ heading_in ks → KeyCheck.Accepted h ≡ checked_by r ks
+pub accepted_by : (ks : List ℕ) (h : Heading) (r : ℕ) → r ≡ 0 → heading_told h ≡ heading_in ks → KeyCheck.Accepted (heading_told h) ≡ checked_by r ks
 unfolding checked_by
 accepted_by ks h r e f = rw (e, f)
+
+-- by the code's refusal
+pub refused_as : (ks : List ℕ) (refusal : Refusal) (r : ℕ) → refusal_number refusal ≡ r → KeyCheck.Refused (refusal_number refusal) ≡ checked_by r ks
+refused_as ks refusal r e = refused_by ks (refusal_number refusal) r e (number_some refusal)
 
 -- of a refused one and of an accepted one
 pub refused_says : (ks : List ℕ) (n r : ℕ) → KeyCheck.Refused n ≡ checked_by r ks → (r ≡ n) × (r ≡ 0 → ⊥)
@@ -379,28 +406,42 @@ refused_says ks n r e = go (eqb r 0) refl
 -- an accepted heading: nothing refused, and board, player and what stands behind are the header's
 pub record Says (refusal : ℕ) (ks : List ℕ) (h : Heading) : Type 0 where
   pub none : refusal ≡ 0
-  pub board_is : (head_in ks).board ≡ board_of h.header.board
-  pub player_is : (head_in ks).player ≡ h.header.player
+  pub board_is : (head_in ks).board ≡ board_of h.board
+  pub player_is : (head_in ks).player ≡ h.player
   pub rest_is : (head_in ks).rest ≡ drop h.end ks
   pub end_is : h.end ≡ length ks - length (head_in ks).rest
 
-pub heading_same : (ks : List ℕ) (h : Heading) (r : ℕ) → KeyCheck.Accepted h ≡ checked_by r ks → h ≡ heading_in ks
+pub heading_same : (ks : List ℕ) (h : Heading) (r : ℕ) → KeyCheck.Accepted (heading_told h) ≡ checked_by r ks → heading_told h ≡ heading_in ks
 unfolding checked_by
 heading_same ks h r e = go (eqb r 0) refl
   where
-    go : (t : Bool) → eqb r 0 ≡ t → h ≡ heading_in ks
+    go : (t : Bool) → eqb r 0 ≡ t → heading_told h ≡ heading_in ks
     go true zero_is = cc
     go false some = let z : ◌≡◌ {A = ℕ} 0 1 = cc in absurd (omega arith)
 
-pub accepted_says : (ks : List ℕ) (h : Heading) (r : ℕ) → KeyCheck.Accepted h ≡ checked_by r ks → Says r ks h
+pub accepted_says : (ks : List ℕ) (h : Heading) (r : ℕ) → KeyCheck.Accepted (heading_told h) ≡ checked_by r ks → Says r ks h
 unfolding checked_by heading_in header_of board
 accepted_says ks h r e =
     let same = heading_same ks h r e in
-    record { none = go (eqb r 0) refl; board_is = rw same; player_is = rw same; rest_is = rw same (sym (heading_rest ks)); end_is = rw same }
+    let end = ap (λ (x : Told). x.end) same in
+    record {
+      none = go (eqb r 0) refl;
+      board_is = sym (ap (λ (x : Told). board x.header.board.players x.header.board.positions x.header.board.width x.header.board.value_bytes) same);
+      player_is = sym (ap (λ (x : Told). x.header.player) same);
+      rest_is = sym (heading_rest ks) ∙ ap (λ (k : ℕ). drop k ks) (sym end);
+      end_is = end;
+    }
   where
     go : (t : Bool) → eqb r 0 ≡ t → r ≡ 0
     go true zero_is = eqb-true r 0 zero_is
     go false some = let z : ◌≡◌ {A = ℕ} 0 1 = cc in absurd (omega arith)
+
+-- the numbers of a heading are those of the header that is made of it
+pub heading_numbers : (h : Heading) (made : Header) → header_board made ≡ board_of h.board → made.player ≡ h.player →
+    header_numbers (header_told made) ≡ header_numbers (heading_told h).header
+unfolding header_numbers board
+heading_numbers h made e i =
+    rw (ap (λ (b : Board). b.p) e, i, ap (λ (b : Board). b.n) e, ap (λ (b : Board). b.wide) e, ap (λ (b : Board). b.w) e) refl
 
 -- a header ends behind its bytes
 pub header_ends : (ks : List ℕ) (h : Heading) (r : ℕ) → Says r ks h → bytes_good ks ≡ true → (head_in ks).good ≡ true → h.end ≡ length (header (head_in ks).board (head_in ks).player)

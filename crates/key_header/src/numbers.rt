@@ -3,92 +3,82 @@
 ghost use Rattle.std.specs.Prelude.{◌≡◌, ◌+◌, ◌≤◌, ◌<◌, length};
 ghost use Rattle.keys.specs.Keys.{number_bytes};
 ghost use Rattle.writer.specs.Written.{Wrote};
-ghost use Rattle.key_header.specs.Answers.{number_at, five_at};
+ghost use Rattle.key_header.specs.Answers.{number_at, five_at, read_of, five_of};
 
 use reader::byte;
 use writer::put_byte;
 
+// Groups of seven bits are document 01's, and no form that the library reads or writes; a place and no slice, as document 01 names it.
 // A place in the bytes that are read.
-#[derive(Clone, Copy)]
+#[derive(Clone, Copy, Debug, PartialEq, Eq)]
 pub struct Reader {
     pub at: usize,
 }
 
-// What stands at a reader's place: a number, and the reader behind it; or none, as the number is cut short, longer than three
-// groups or not in its shortest form.
-#[derive(Clone, Copy)]
-pub enum Number {
-    Whole(u32, Reader),
-    Broken,
-}
-
-// Five numbers one behind another, and the place behind them. Where one is none, `whole` is false, and it and all behind it are 0.
-#[derive(Clone, Copy)]
+// The place and not the rest of the bytes, as in `Reader`.
+// Five numbers one behind another, and the place behind them.
+#[derive(Clone, Copy, Debug, PartialEq, Eq)]
 pub struct Five {
-    pub whole: bool,
     pub values: [u32; 5],
     pub end: usize,
 }
 
 impl Reader {
-    // A last group is never 0, and past the end a byte reads as 0: a number that is cut short reads as one that is not in its shortest form.
-    pub fn number(self, bytes: &[u8]) -> Number
-        ensures { result ≡ number_at bytes.now self.at }
+    // The number that stands at its place, and the reader behind it; none where the number is cut short, longer than three groups or not in its
+    // shortest form. A last group is never 0, and past the end a byte reads as 0: a number that is cut short reads as one that is not in its
+    // shortest form.
+    pub fn number(self, bytes: &[u8]) -> Option<(u32, Reader)>
+        ensures { read_of result ≡ number_at bytes.now self.at }
     {
         let at = self.at;
         if bytes.len() <= at {
-            return Number::Broken;
+            return None;
         }
         let first = byte(bytes, at) as u32;
         if first < 128 {
-            return Number::Whole(first, Reader { at: at + 1 });
+            return Some((first, Reader { at: at + 1 }));
         }
         let second = byte(bytes, at + 1) as u32;
         if second == 0 {
-            return Number::Broken;
+            return None;
         }
         if second < 128 {
-            return Number::Whole(first - 128 + 128 * second, Reader { at: at + 2 });
+            return Some((first - 128 + 128 * second, Reader { at: at + 2 }));
         }
         let third = byte(bytes, at + 2) as u32;
         if third == 0 {
-            return Number::Broken;
+            return None;
         }
         if third < 128 {
-            return Number::Whole(
+            return Some((
                 first - 128 + 128 * (second - 128) + 16384 * third,
                 Reader { at: at + 3 },
-            );
+            ));
         }
-        Number::Broken
+        None
     }
 }
 
-// The five numbers that stand in front.
-pub fn five_numbers(bytes: &[u8]) -> Five
-    ensures { result ≡ five_at bytes.now }
+// The five numbers that stand in front; or, where one of them is none, those before it, with 0 for it and all behind it, and the end of the bytes.
+pub fn five_numbers(bytes: &[u8]) -> Result<Five, Five>
+    ensures { five_of result ≡ five_at bytes.now }
 {
     let mut values = [0u32; 5];
-    let mut at: usize = 0;
-    let mut read: usize = 0;
-    while read < 5 {
-        let reader = Reader { at };
-        let Number::Whole(value, next) = reader.number(bytes) else {
-            return Five {
-                whole: false,
+    let mut reader = Reader { at: 0 };
+    for value in values.iter_mut() {
+        let Some((number, next)) = reader.number(bytes) else {
+            return Err(Five {
                 values,
                 end: bytes.len(),
-            };
+            });
         };
-        values[read] = value;
-        at = next.at;
-        read += 1;
+        *value = number;
+        reader = next;
     }
-    Five {
-        whole: true,
+    Ok(Five {
         values,
-        end: at,
-    }
+        end: reader.at,
+    })
 }
 
 // Bytes of a number, a group of seven bits to each.

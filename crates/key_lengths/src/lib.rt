@@ -1,9 +1,8 @@
-// How long things are in a key: a grid row's marks, a grid row, all that stands behind the header, and the whole key of an accepted board.
+// How long things are in a key: a grid row's marks, a grid row, all that stands behind the header, and the whole key of a board.
 // Assumes nothing.
 #![tactic(auto)]
 
 ghost use Rattle.std.specs.Prelude.{◌≡◌};
-ghost use Rattle.grid.specs.Grid.{board_refusal};
 ghost use Rattle.grid.specs.Code.{board_of};
 ghost use Rattle.keys.specs.Keys.{mark_bytes, stride, body_long, key_long};
 
@@ -12,7 +11,6 @@ use key_header::{Header, header_length};
 
 // Bytes of a grid row's marks: a bit for each column.
 pub fn mark_bytes(board: Board) -> usize
-    requires { board_refusal (board_of board) ≡ 0 }
     ensures { result ≡ mark_bytes (board_of board) }
 {
     (board.columns() + 7) / 8
@@ -20,7 +18,6 @@ pub fn mark_bytes(board: Board) -> usize
 
 // Bytes of a grid row: its marks, and the seeds of half its columns.
 pub fn stride(board: Board) -> usize
-    requires { board_refusal (board_of board) ≡ 0 }
     ensures { result ≡ stride (board_of board) }
 {
     mark_bytes(board) + 16 * board.columns()
@@ -28,7 +25,6 @@ pub fn stride(board: Board) -> usize
 
 // Bytes behind the header: all grid rows, and the words.
 pub fn body_length(board: Board) -> usize
-    requires { board_refusal (board_of board) ≡ 0 }
     ensures { result ≡ body_long (board_of board) }
 {
     board.grid_rows() * stride(board) + board.columns() * board.row_length()
@@ -36,9 +32,8 @@ pub fn body_length(board: Board) -> usize
 
 // Bytes of a key, K: header + ν × (marks + 16 × J) + J × μ × w. Whose key it is makes no difference: a player's number takes one byte.
 pub fn key_length(board: Board) -> usize
-    requires { board_refusal (board_of board) ≡ 0 }
     ensures { result ≡ key_long (board_of board) }
 {
-    let anyone = Header { board, player: 0 };
+    let anyone = Header::of(board, 0);
     header_length(anyone) + body_length(board)
 }

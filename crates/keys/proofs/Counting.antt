@@ -1,10 +1,9 @@
--- Counting marks: one turn of the loop that counts them, and spare bits as a count.
+-- Counting marks: spare bits as a count, and grid row by grid row.
 -- Assumes nothing.
 use mathlib.Core.Path.{◌≡◌, refl, sym, ap, ◌∙◌}
 use mathlib.Core.Bool.{Bool, true, false, ◌&&◌, not, cond}
 use mathlib.Core.List.{List}
 use Prim.Native.Nat.{ℕ, zero, suc, ◌+◌, ◌*◌, ◌-◌, ◌/◌, ◌%◌, ◌≤◌, ◌<◌}
-use native.Mathlib.Numerals.{add-one}
 use native.Mathlib.Omega.{arith}
 use native.Mathlib.Nat.{zero-add}
 use borrow.Author.Tests.{eq-eqb, ne_eqb, not-true, not-false}
@@ -12,29 +11,7 @@ use lib.Dec.{eqb}
 use lib.ListN.{get_or, drop}
 use Rattle.grid.specs.Grid.{Board, columns, bit}
 use Rattle.keys.specs.Keys.{mark_bytes, count_marks, spare_from, stride, marks_good}
-use Rattle.keys.specs.Held.{marked, grid_row_fits}
-
--- the next column's mark, and the marks behind it
-pub count_next : (ps : List ℕ) (until column : ℕ) → column < until
-    → count_marks (until - column) column ps ≡ cond (marked ps column) 1 0 + count_marks (until - (column + 1)) (column + 1) ps
-unfolding count_marks marked
-count_next ps until column h =
-    let left : until - column ≡ suc (until - suc column) = omega arith in
-    rw (left, add-one)
-
--- where no column is left the count is whole
-pub count_end : (ps : List ℕ) (until column : ℕ) → until ≤ column → count_marks (until - column) column ps ≡ 0
-unfolding count_marks
-count_end ps until column h = let left : until - column ≡ 0 = omega arith in rw left
-
--- a turn: the count with this column's mark, and what is left behind it, make the same whole
-pub count_turn : (ps : List ℕ) (until column count total next : ℕ) (t : Bool) → column < until → marked ps column ≡ t → next ≡ count + cond t 1 0
-    → count ≤ column → count + count_marks (until - column) column ps ≡ total
-    → (next ≤ column + 1) × (next + count_marks (until - (column + 1)) (column + 1) ps ≡ total)
-count_turn ps until column count total next true h m n small e =
-    let step = rw m at (count_next ps until column h) in (omega arith, omega arith)
-count_turn ps until column count total next false h m n small e =
-    let step = rw m at (count_next ps until column h) in (omega arith, omega arith)
+use Rattle.keys.specs.Held.{grid_row_fits}
 
 -- no spare bit is set where none is counted
 pub spare_is : (k j : ℕ) (ps : List ℕ) → spare_from k j ps ≡ eqb (count_marks k j ps) 0

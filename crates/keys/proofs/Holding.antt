@@ -97,7 +97,7 @@ seed_inside ks g j s =
 
 -- BY THE PLACE: 0 where nothing is held, since marks stand before every seed
 module _ (ks : List ℕ) (g j : ℕ) where
-  place_zero : held_seed_place ks g j ≡ 0 → holds ks g j ≡ false
+  pub place_zero : held_seed_place ks g j ≡ 0 → holds ks g j ≡ false
   unfolding held_seed_place seed_from mark_bytes
   place_zero e = go (holds ks g j) refl
     where

@@ -8,8 +8,7 @@ use Rattle.std.specs.Prelude.{◌≡◌, Bool, true, false, ◌&&◌, not, cond,
 use Rattle.xor.specs.Xor.{xors, zeros}
 use Rattle.grid.specs.Grid.{Board, board, columns, grid_rows, row_long, board_refusal, arrays_long, seeds_long}
 use Rattle.grid.specs.Grid.{words_long, Dealing, all_words, bit, cell}
-use Rattle.grid.specs.Faults.{has_place, arrays_fault}
-use Rattle.grid.specs.declared.fault.Fault.{Fault}
+use Rattle.grid.specs.Faults.{Fault, has_place, arrays_fault}
 
 -- NUMBERS AND HEADERS
 

@@ -9,16 +9,18 @@ use Rattle.xor.specs.Xor.{bytes_good}
 use Rattle.keys.specs.Held.{held_seed_place, HeldAt, PlaceHolds}
 use Rattle.keys.proofs.Holding.{place_holds}
 use Rattle.keys.specs.Keys.{key_refusal}
-use Rattle.key_header.specs.Answers.{header_numbers, checked_by}
-use Rattle.key_header.specs.declared.Heading.{Heading}
-use Rattle.key_header.specs.declared.KeyCheck.{KeyCheck}
+use Rattle.key_header.specs.Answers.{Heading, KeyCheck, header_numbers, checked_by}
 use Rattle.key_header.proofs.Reading.{refused_says}
-use Rattle.key_check.specs.Checked.{checked_as}
+use Rattle.key_check.specs.Checked.{checked_as, place_of}
 use Rattle.key_check.proofs.Checks.{check_tells}
-use Rattle.grid.specs.declared.fault.Fault.{Fault}
-use Rattle.call_answers.specs.Answers.{says, told, DealTells}
-use Rattle.call_answers.specs.declared.Answer.{Answer}
-use Rattle.call_answers.specs.declared.DealAnswer.{DealAnswer}
+use Rattle.std.specs.Prelude.{Option, Result, ⊤}
+use Rattle.std.specs.Option.{unwrap_or}
+use Rattle.refusal.specs.Refusing.{refusal_number}
+use Rattle.refusal.specs.declared.Refusal.{Refusal}
+use Rattle.refusal.proofs.Numbers.{number_some}
+use Rattle.grid.specs.declared.fault.Fault as found
+use Rattle.dealing.specs.declared.DealRefusal.{DealRefusal}
+use Rattle.call_answers.specs.Answers.{Answer, answer_told, says, told, deal_answer, DealTells}
 use Rattle.call_answers.proofs.Telling.{plain_unplaced, faulty_placed}
 use Rattle.nosingginger_c.specs.C.{Through, ValuePut, DealThrough, CheckSays, HeldSays}
 
@@ -49,25 +51,35 @@ said_through A n v a r o z said s p =
     go true e f = (sym f, refl)
     go false e f = (e, f)
 
--- an answer whose value was put is the operation's answer through the pointer
-pub through : (n v : ℕ) (a : Answer) (r o z : ℕ) → says n v a → ValuePut a.refusal a.value r o z → Through (λ b. says n v b) r o z
-through n v a r o z s p = said_through (λ b. says n v b) n v a r o z s s p
+-- the code's answer is a number and a value in each of its cases
+answer_says : (a : Result ℕ Refusal) → says (answer_told a).refusal (answer_told a).value (answer_told a)
+unfolding says
+answer_says (Result.Ok v) = (refl, refl)
+answer_says (Result.Err refusal) = (refl, rw (ne_eqb (refusal_number refusal) 0 (number_some refusal)) refl)
+
+pub answer_through : (A : Answer → Type 0) (a : Result ℕ Refusal) (r o z : ℕ) → A (answer_told a) →
+    ValuePut (answer_told a).refusal (answer_told a).value r o z → Through A r o z
+answer_through A a r o z said put = said_through A _ _ (answer_told a) r o z said (answer_says a) put
 
 -- what Deal answers, with the place of a fault behind the pointer
 module _ (p n m w a : ℕ) (v cs ss ws o z f : List ℕ) where
-  pub deal_plain : (k : ℕ) (d : DealAnswer) → d ≡ DealAnswer.Number k → DealTells p n m w a v cs ss ws (told d) o z
-      → DealThrough p n m w a v cs ss ws k o z f f
+  pub deal_done : (u : ⊤) → DealTells p n m w a v cs ss ws (told (deal_answer (Result.Ok u))) o z → DealThrough p n m w a v cs ss ws 0 o z f f
   unfolding DealThrough told
-  deal_plain k d e tells =
-      let plain = subst (λ (x : DealAnswer). DealTells p n m w a v cs ss ws (told x) o z) e tells in
-      rw (plain_unplaced p n m w a v cs ss ws o z k plain) (plain, refl)
+  deal_done u tells = (tells, refl)
 
-  pub deal_placed : (g : Fault) (d : DealAnswer) (k : ℕ) → d ≡ DealAnswer.Fault g → DealTells p n m w a v cs ss ws (told d) o z
-      → k ≡ g.number → DealThrough p n m w a v cs ss ws k o z f (g.grid_row ∷ g.column ∷ [])
+  pub deal_plain : (d : DealRefusal) (r : Refusal) (k : ℕ) → d ≡ DealRefusal.Plain r → k ≡ refusal_number r →
+      DealTells p n m w a v cs ss ws (told (deal_answer (Result.Err d))) o z → DealThrough p n m w a v cs ss ws k o z f f
   unfolding DealThrough told
-  deal_placed g d k e tells number =
-      let placed = subst (λ (x : DealAnswer). DealTells p n m w a v cs ss ws (told x) o z) e tells in
-      rw (number, faulty_placed p n m w a v cs ss ws o z g placed) (placed, refl)
+  deal_plain d r k is e tells =
+      let plain = subst (λ (x : DealRefusal). DealTells p n m w a v cs ss ws (told (deal_answer (Result.Err x))) o z) is tells in
+      rw (e, plain_unplaced p n m w a v cs ss ws o z (refusal_number r) plain) (plain, refl)
+
+  pub deal_placed : (d : DealRefusal) (g : found.Fault) (k : ℕ) → d ≡ DealRefusal.Fault g → k ≡ refusal_number g.refusal →
+      DealTells p n m w a v cs ss ws (told (deal_answer (Result.Err d))) o z → DealThrough p n m w a v cs ss ws k o z f (g.grid_row ∷ g.column ∷ [])
+  unfolding DealThrough told
+  deal_placed d g k is e tells =
+      let placed = subst (λ (x : DealRefusal). DealTells p n m w a v cs ss ws (told (deal_answer (Result.Err x))) o z) is tells in
+      rw (e, faulty_placed p n m w a v cs ss ws o z (record { number = refusal_number g.refusal; grid_row = g.grid_row; column = g.column }) placed) (placed, refl)
 
 pub check_refused : (ks o : List ℕ) (n : ℕ) → KeyCheck.Refused n ≡ checked_by (key_refusal ks) ks → CheckSays ks n o o
 unfolding CheckSays checked_as
@@ -86,3 +98,8 @@ pub held_told : (ks : List ℕ) (g j r : ℕ) → bytes_good ks ≡ true → r �
 unfolding PlaceHolds
 held_told ks g j r good e =
     record { place_is = e; stands = subst⁻¹ (λ (place : ℕ). HeldAt ks g j place) e (place_holds ks g j good) }
+
+-- which is 0 where there is none
+pub told_place : (place : Option ℕ) → unwrap_or place 0 ≡ place_of place
+told_place Option.None = refl
+told_place (Option.Some p) = refl

@@ -2,8 +2,7 @@
 -- Assumes nothing: these are definitions.
 use Rattle.std.specs.Prelude.{◌≡◌, cond, List, [], ℕ, eqb}
 use Rattle.grid.specs.Faults.{has_place}
-use Rattle.call_answers.specs.declared.Answer.{Answer}
-use Rattle.call_answers.specs.Answers.{DealTells}
+use Rattle.call_answers.specs.Answers.{Answer, DealTells}
 use Rattle.keys.specs.Held.{held_seed_place, HeldAt}
 use Rattle.key_check.specs.Checked.{key_checked}
 

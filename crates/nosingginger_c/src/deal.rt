@@ -1,7 +1,8 @@
 // Deal as a C function. Assumes nothing.
+// Refusals are answered by number: C has numbers, and no `Result`.
 ghost use Rattle.nosingginger_c.specs.C.{DealThrough};
 
-use nosingginger::DealAnswer;
+use nosingginger::DealRefusal;
 
 // DEAL: the keys of all players one after another; where the arrays are at fault, the grid row and the column of the
 // first fault.
@@ -35,10 +36,11 @@ pub extern "C" fn nsg_deal(
         words,
         keys,
     ) {
-        DealAnswer::Number(number) => number,
-        DealAnswer::Fault(found) => {
+        Ok(()) => 0,
+        Err(DealRefusal::Plain(refusal)) => refusal.number(),
+        Err(DealRefusal::Fault(found)) => {
             *fault = [found.grid_row, found.column];
-            found.number
+            found.refusal.number()
         }
     }
 }

@@ -1,8 +1,9 @@
 // The board on a page: Write page as a C function. Assumes nothing.
+// Refusals are answered by number: C has numbers, and no `Result`.
 ghost use Rattle.call_answers.specs.Answers.{PageSays};
 ghost use Rattle.nosingginger_c.specs.C.{Through};
 
-use crate::value::put_value;
+use crate::value::put_answer;
 
 // WRITE PAGE: a table as lines of eight cells; the bytes written.
 #[unsafe(no_mangle)]
@@ -16,7 +17,7 @@ pub extern "C" fn nsg_write_page(
     ensures { Through (λ a. PageSays positions value_bytes table.now a
         out.old out.new) result written.old written.new }
 {
-    put_value(
+    put_answer(
         nosingginger::write_page(positions, value_bytes, table, out),
         written,
     )

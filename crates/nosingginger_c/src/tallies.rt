@@ -1,8 +1,10 @@
 // A tally over many hunts: make, add, look up and total as C functions, each with the tally's four numbers in front.
 // Assumes nothing.
+// Refusals are answered by number: C has numbers, and no `Result`.
 ghost use Rattle.tally.specs.Tallies.{tally_of, MakeSays, AddSays, LookUpSays, TotalSays};
 
 use nosingginger::Tally;
+use refusal::answer_number;
 
 // MAKE: every entry zero.
 #[unsafe(no_mangle)]
@@ -16,13 +18,8 @@ pub extern "C" fn nsg_tally_make(
     ensures { MakeSays (tally_of players player positions value_bytes) result
         table.old table.new }
 {
-    let tally = Tally {
-        players,
-        player,
-        positions,
-        value_bytes,
-    };
-    nosingginger::tally_make(tally, table)
+    let tally = Tally::new(players, player, positions, value_bytes);
+    answer_number(nosingginger::tally_make(tally, table))
 }
 
 // ADD: the key's full table XORed into the lent one.
@@ -38,13 +35,8 @@ pub extern "C" fn nsg_tally_add(
     ensures { AddSays (tally_of players player positions value_bytes) key.now result
         table.old table.new }
 {
-    let tally = Tally {
-        players,
-        player,
-        positions,
-        value_bytes,
-    };
-    nosingginger::tally_add(tally, key, table)
+    let tally = Tally::new(players, player, positions, value_bytes);
+    answer_number(nosingginger::tally_add(tally, key, table))
 }
 
 // LOOK UP: the entry of one position.
@@ -61,13 +53,8 @@ pub extern "C" fn nsg_tally_look_up(
     ensures { LookUpSays (tally_of players player positions value_bytes) table.now position result
         out.old out.new }
 {
-    let tally = Tally {
-        players,
-        player,
-        positions,
-        value_bytes,
-    };
-    nosingginger::tally_look_up(tally, table, position, out)
+    let tally = Tally::new(players, player, positions, value_bytes);
+    answer_number(nosingginger::tally_look_up(tally, table, position, out))
 }
 
 // TOTAL: the XOR of all entries.
@@ -83,11 +70,6 @@ pub extern "C" fn nsg_tally_total(
     ensures { TotalSays (tally_of players player positions value_bytes) table.now result
         out.old out.new }
 {
-    let tally = Tally {
-        players,
-        player,
-        positions,
-        value_bytes,
-    };
-    nosingginger::tally_total(tally, table, out)
+    let tally = Tally::new(players, player, positions, value_bytes);
+    answer_number(nosingginger::tally_total(tally, table, out))
 }

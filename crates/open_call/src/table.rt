@@ -1,25 +1,19 @@
 // Opening every square of a key. Assumes nothing.
+ghost use Rattle.refusal.specs.Refusing.{answer_number};
 ghost use Rattle.call_answers.specs.Answers.{OpenAllSays};
 
-use call_answers::refusals::{ACCEPTED, REFUSED_ROOM};
-use key_check::check::check_key;
-use key_header::KeyCheck;
-use reader::part_from;
+use key_check::body::check_body;
+use refusal::Refusal;
 
 // OPEN ALL: Check key's numbers, 9; writes the full table.
-pub fn open_all(key: &[u8], output: &mut [u8]) -> u32
-    ensures { OpenAllSays key.now result output.old output.new }
+pub fn open_all(key: &[u8], output: &mut [u8]) -> Result<(), Refusal>
+    ensures { OpenAllSays key.now (answer_number result) output.old output.new }
 {
-    let heading = match check_key(key) {
-        KeyCheck::Refused(number) => return number,
-        KeyCheck::Accepted(heading) => heading,
-    };
-    let header = heading.header;
-    let board = header.board;
-    let table = (board.positions * board.value_bytes) as usize;
+    let (_, body) = check_body(key)?;
+    let table = body.board.table_length();
     if output.len() < table {
-        return REFUSED_ROOM;
+        return Err(Refusal::Room);
     }
-    open_key::open_table(part_from(key, heading.end), board, output);
-    ACCEPTED
+    open_key::open_table(&body, output);
+    Ok(())
 }

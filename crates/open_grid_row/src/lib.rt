@@ -7,7 +7,7 @@
 ghost use Rattle.std.specs.Prelude.{◌≡◌, cond, ◌+◌, ◌*◌, ◌-◌, ◌/◌, ◌≤◌, ◌<◌, length, take, drop};
 ghost use Rattle.xor.specs.Xor.{xors};
 ghost use Rattle.seed_rows.specs.Rows.{rule};
-ghost use Rattle.grid.specs.Grid.{board_refusal, columns, grid_rows, row_long};
+ghost use Rattle.grid.specs.Grid.{columns, grid_rows, row_long};
 ghost use Rattle.grid.specs.Code.{board_of};
 ghost use Rattle.keys.specs.Keys.{mark_bytes, count_marks, stride};
 ghost use Rattle.open_grid_row.specs.Shares.{shares};
@@ -20,7 +20,7 @@ use reader::part_from;
 use seed_rows::xor_rows;
 use xor::xor_into;
 
-// XORs a word into `out` where its column is marked.
+// XORs a word into `out` where its column is marked. No twin of deal_grid_rows's `put_if`: that one writes a seed and moves on.
 fn add_if(marked: bool, word: &[u8], out: &mut [u8])
     requires { length out.old ≡ length word.now }
     ensures { out.new ≡ cond marked (xors out.old word.now) out.old }
@@ -30,42 +30,33 @@ fn add_if(marked: bool, word: &[u8], out: &mut [u8])
     }
 }
 
+// `from` and `out` go as two, here and below: the one is a place of a row, the other a part of an output that moves on with each grid row.
 // XORs into `out` the words of the columns that are marked in the grid row at which the part begins, each from its byte `from` on. The words
 // of all columns stand one after another.
-fn add_words(
-    part: &[u8],
-    columns: usize,
-    words: &[u8],
-    row_bytes: usize,
-    from: usize,
-    out: &mut [u8],
-)
-    requires { (columns * row_bytes ≤ length words.now) × (from + length out.old ≤ row_bytes) }
-    ensures { out.new ≡ xors out.old (marked_words columns 0 part.now words.now row_bytes from (length out.old)) }
+fn add_words(part: &[u8], words: &[u8], row_bytes: usize, from: usize, out: &mut [u8])
+    requires { (0 < row_bytes) × (from + length out.old ≤ row_bytes) }
+    ensures { out.new ≡ xors out.old (marked_words (length words.now / row_bytes) 0 part.now words.now row_bytes from (length out.old)) }
 {
-    let mut column: usize = 0;
-    while column < columns {
-        let word = column * row_bytes + from;
-        let end = word + out.len();
-        add_if(mark(part, column), &words[word..end], out);
-        column += 1;
+    let end = from + out.len();
+    for (column, word) in words.chunks_exact(row_bytes).enumerate() {
+        add_if(mark(part, column), &word[from..end], out);
     }
 }
 
 // The same by the board's numbers: the words stand behind the grid row at which the part begins and all after it.
 fn add_grid_row_words(part: &[u8], board: Board, grid_row: usize, from: usize, out: &mut [u8])
-    requires { (board_refusal (board_of board) ≡ 0) × (grid_row < grid_rows (board_of board))
+    requires { (grid_row < grid_rows (board_of board))
         × (length part.now ≡ (grid_rows (board_of board) - grid_row) * stride (board_of board) + columns (board_of board) * row_long (board_of board))
         × (from + length out.old ≤ row_long (board_of board)) }
     ensures { out.new ≡ xors out.old (grid_row_words (board_of board) part.now grid_row from (length out.old)) }
 {
     let words = part_from(part, (board.grid_rows() - grid_row) * stride(board));
-    add_words(part, board.columns(), words, board.row_length(), from, out);
+    add_words(part, words, board.row_length(), from, out);
 }
 
 // The held seeds of the grid row at which the part begins: half its columns have one.
 fn grid_row_seeds(part: &[u8], board: Board) -> &[u8]
-    requires { (board_refusal (board_of board) ≡ 0) × (stride (board_of board) ≤ length part.now) }
+    requires { stride (board_of board) ≤ length part.now }
     ensures { result.now ≡ take (32 * (columns (board_of board) / 2)) (drop (mark_bytes (board_of board)) part.now) }
 {
     let from = mark_bytes(board);
@@ -73,9 +64,10 @@ fn grid_row_seeds(part: &[u8], board: Board) -> &[u8]
     &part[from..end]
 }
 
+// Part and board, and no `Body`: docs/DECISIONS.md names this function, and a `Body` says of every grid row what is asked here of one.
 // XORs into `out` the shares of the grid row at which the part begins, from byte `from` of them on.
 pub fn add_shares(part: &[u8], board: Board, grid_row: usize, from: usize, out: &mut [u8])
-    requires { (board_refusal (board_of board) ≡ 0) × (grid_row < grid_rows (board_of board))
+    requires { (grid_row < grid_rows (board_of board))
         × (length part.now ≡ (grid_rows (board_of board) - grid_row) * stride (board_of board) + columns (board_of board) * row_long (board_of board))
         × (count_marks (columns (board_of board)) 0 part.now ≡ columns (board_of board) / 2)
         × (from + length out.old ≤ row_long (board_of board)) }

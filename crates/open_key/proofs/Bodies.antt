@@ -3,7 +3,6 @@
 use mathlib.Core.Path.{◌≡◌, sym, ◌∙◌}
 use mathlib.Core.List.{List}
 use Prim.Native.Nat.{ℕ, ◌+◌, ◌*◌, ◌/◌, ◌%◌, ◌≤◌}
-use native.Mathlib.Nat.{mul-le-mul}
 use native.Mathlib.Omega.{arith}
 use lib.ListN.{length, take}
 use lib.Seq.{length-take-le}
@@ -11,16 +10,22 @@ use Rattle.xor.specs.Xor.{xors, zeros}
 use Rattle.xor.proofs.Laws.{word_zeros}
 use Rattle.chacha20.specs.Expand.{expand}
 use Rattle.grid.specs.Grid.{Board, columns, row_long}
-use Rattle.grid.proofs.Facts.{BoardIn, cell_in, cell_fits}
+use Rattle.grid.specs.Code.{board_of}
+use Rattle.grid.proofs.Facts.{BoardIn, board_in, cell_in, cell_fits}
 use Rattle.keys.specs.Keys.{count_marks, grid_row_part}
+use Rattle.keys.proofs.Accepted.{BodyIn, body_good}
+use Rattle.key_check.specs.declared.body.Body.{Body}
 use Rattle.open_grid_row.specs.Shares.{shares}
 use Rattle.open_grid_row.proofs.Halves.{shares_fresh}
 use Rattle.open_key.specs.Opened.{square_of}
 use Rattle.open_key.proofs.Tables.{opened_shares}
 
--- a table's length is far from the largest number
-pub table_most : (b : Board) → BoardIn b → b.n * b.w ≤ 1048576
-table_most b f = mul-le-mul f.positions_most f.value_most
+-- what is known of a body by its type
+pub board_known : (body : Body) → BoardIn (board_of body.board)
+board_known body = board_in _ body.board.accepted
+
+pub body_known : (body : Body) → BodyIn (board_of body.board) body.bytes.now
+body_known body = body_good _ _ body.accepted body.good
 
 -- a cell lies in its row
 pub cell_within : (b : Board) → BoardIn b → (a : ℕ) → a % b.wide * b.w + b.w ≤ row_long b

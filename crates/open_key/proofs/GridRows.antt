@@ -2,11 +2,11 @@
 -- A short last grid row has all its cells in rows and words, and those below N in the table. Assumes nothing.
 use mathlib.Core.Path.{◌≡◌, sym, ap, ◌∙◌}
 use mathlib.Core.List.{List, ◌++◌, append_assoc}
-use Prim.Native.Nat.{ℕ, zero, suc, ◌+◌, ◌*◌, ◌-◌, ◌/◌, ◌≤◌, ◌<◌, min}
+use Prim.Native.Nat.{ℕ, zero, suc, ◌+◌, ◌*◌, ◌-◌, ◌≤◌, ◌<◌, min}
 use native.Mathlib.Nat.{mul-le-mul_right, le-div_iff_mul-le, lt-div-mul-add, min-eq_left, min-eq_right}
 use native.Mathlib.Decide.{dec_le}
 use native.Mathlib.Omega.{arith}
-use lib.ListN.{length, take, drop, length-drop}
+use lib.ListN.{length, take, drop}
 use lib.Seq.{take_at, drop_at}
 use Rattle.xor.specs.Xor.{xors, zeros}
 use Rattle.xor.proofs.Laws.{Word, xors_zeros_left}
@@ -14,11 +14,11 @@ use Rattle.chacha20.specs.Expand.{expand}
 use Rattle.chacha20.proofs.Stream.{word_expand}
 use Rattle.keys.specs.Promise.{RuleGood}
 use Rattle.keys.proofs.Lists.{row_word}
-use Rattle.grid.specs.Grid.{Board, columns, grid_rows, row_long}
+use Rattle.grid.specs.Grid.{Board, grid_rows, row_long}
 use Rattle.grid.proofs.Facts.{BoardIn}
-use Rattle.keys.specs.Keys.{count_marks, stride, grid_row_part, Parts, parts_of, share_by_parts, table_from}
+use Rattle.keys.specs.Keys.{grid_row_part, Parts, parts_of, share_by_parts, table_from}
 use Rattle.keys.proofs.Accepted.{BodyIn, body_parts}
-use Rattle.keys.proofs.Opening.{tests_at, share_word, table_row}
+use Rattle.keys.proofs.Opening.{share_word, table_row}
 use Rattle.open_grid_row.specs.Shares.{shares}
 use Rattle.open_key.specs.Opened.{table_of, entries_long, entries_of}
 use Rattle.open_key.proofs.Tables.{grid_row_table}
@@ -49,23 +49,6 @@ module _ (b : Board) (board : BoardIn b) where
   pub rows_past : (g row total : ℕ) → g ≡ grid_rows b → row ≡ row_long b → total ≡ b.n * b.w → total ≤ g * row
   unfolding row_long
   rows_past g row total last r t = rw (last, r, t) (omega (arith, mul-le-mul_right {m = b.n} {n = grid_rows b * b.wide} b.w rows_cover))
-
--- the part that begins at a grid row
-behind : (g n s r : ℕ) → g ≤ n → n * s + r - g * s ≡ (n - g) * s + r
-behind g n s r h =
-    let all : g + (n - g) ≡ n = omega arith in
-    let sum : g * s + (n - g) * s ≡ n * s = (let parts : g * s + (n - g) * s ≡ (g + (n - g)) * s = omega arith in parts ∙ ap (λ (m : ℕ). m * s) all) in
-    omega arith
-
-module _ (b : Board) (bs : List ℕ) (body : BodyIn b bs) (g : ℕ) (inside : g < grid_rows b) where
-  pub part_length : (part : List ℕ) → part ≡ grid_row_part b bs g → length part ≡ (grid_rows b - g) * stride b + columns b * row_long b
-  unfolding grid_row_part
-  part_length part e =
-      ap length e ∙ length-drop (g * stride b) bs ∙ ap (λ (n : ℕ). n - g * stride b) body.long
-      ∙ behind g (grid_rows b) (stride b) (columns b * row_long b) (omega arith)
-
-  pub part_marks : (part : List ℕ) → part ≡ grid_row_part b bs g → count_marks (columns b) 0 part ≡ columns b / 2
-  part_marks part e = rw e (tests_at (grid_rows b) g b bs inside body.marks)
 
 -- HOW MUCH OF IT THE TABLE HAS
 

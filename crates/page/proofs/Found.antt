@@ -1,6 +1,6 @@
 -- What a reader finds on a page: terms of the statements of specs/Found.antt. A line is found among lines of one length,
 -- a cell among a line's cells, and what was written is read back. Assumes nothing.
-use mathlib.Core.Path.{◌≡◌, refl, sym, ap, ◌∙◌, subst}
+use mathlib.Core.Path.{◌≡◌, refl, sym, ap, ◌∙◌}
 use mathlib.Core.Bool.{Bool, true, false, cond}
 use mathlib.Core.List.{List, [], ◌∷◌, ◌++◌, append_assoc}
 use Prim.Native.Nat.{ℕ, zero, suc, ◌+◌, ◌*◌, ◌-◌, ◌/◌, ◌%◌, ◌≤◌, ◌<◌}
@@ -8,7 +8,7 @@ use native.Mathlib.Omega.{arith}
 use native.Mathlib.Nat.{zero-add, suc-mul, zero-mul}
 use lib.Dec.{ltb}
 use lib.ListN.{length, take, drop, replicate, length-append, length-drop, take-append-drop}
-use lib.Seq.{take_at, drop_at, drop-drop, take-append-le, drop-append-le, take_all, length-take-le}
+use lib.Seq.{take_at, drop_at, drop-drop, take-append-le, drop-append-le, take_all}
 use Rattle.xor.specs.Xor.{bytes_good}
 use Rattle.xor.proofs.Laws.{good_take, good_drop}
 use Rattle.writer.specs.InARow.{in_a_row}

@@ -1,9 +1,9 @@
 -- The laws of a page: how long its cells and lines are, and a line as it is written: the cells that hold a value, and
 -- spaces for those past them; one cell and one line more. Assumes nothing.
 use mathlib.Core.Path.{◌≡◌, refl, sym, ap, ◌∙◌}
-use mathlib.Core.Bool.{Bool, true, false, cond}
+use mathlib.Core.Bool.{Bool, true, false}
 use mathlib.Core.List.{List, [], ◌∷◌, ◌++◌, append_assoc}
-use Prim.Native.Nat.{ℕ, suc, ◌+◌, ◌*◌, ◌-◌, ◌/◌, ◌≤◌, ◌<◌, min}
+use Prim.Native.Nat.{ℕ, ◌+◌, ◌*◌, ◌-◌, ◌≤◌, ◌<◌, min}
 use native.Mathlib.Omega.{arith}
 use native.Mathlib.Nat.{suc-mul, add-mul, mul-le-mul, mul-le-mul_right}
 use lib.Dec.{ltb}
@@ -114,12 +114,6 @@ cells_turn at first cell count w value ts within whole room p q is =
     let grown : in_a_row (cell + 1) first F ≡ in_a_row cell first F ++ (32 ∷ hex value) = rw is (row_next cell first F) in
     wrote_more (in_a_row cell first F) (32 ∷ hex value) (in_a_row (cell + 1) first F) grown
     (omega (arith, values_long (cell + 1) first count w ts (omega arith) whole, part_within cell count (2 * w + 1) within, suc-mul cell (2 * w + 1))) p q
-
--- where the next value begins
-pub next_value : (first cell w from : ℕ) → from ≡ (first + cell) * w → from + w ≡ (first + (cell + 1)) * w
-next_value first cell w from e =
-    let next : first + (cell + 1) ≡ suc (first + cell) = omega arith in
-    rw (next, suc-mul (first + cell) w, e)
 
 -- the next cell has its room
 pub cell_room : (at first cell count w from next room : ℕ) (ts : List ℕ) → cell < count → (first + count) * w ≤ length ts →

@@ -2,7 +2,7 @@
 // lent output, line behind line. Its meaning is specs/Page.antt. Assumes nothing.
 #![tactic(auto)]
 
-ghost use Rattle.std.specs.Prelude.{◌≡◌, ◌∷◌, ◌+◌, ◌*◌, ◌≤◌, ◌<◌, min, length};
+ghost use Rattle.std.specs.Prelude.{◌≡◌, ◌∷◌, ◌+◌, ◌*◌, ◌≤◌, ◌<◌, length};
 ghost use Rattle.writer.specs.Written.{Wrote};
 ghost use Rattle.digits.specs.Digits.{hex, spaces};
 ghost use Rattle.page.specs.Page.{value_cells, page_line, page_lines, page, line_long, page_long};
@@ -19,7 +19,7 @@ fn page_lines(positions: usize) -> usize
     requires { positions ≤ 65536 }
     ensures { result ≡ page_lines positions }
 {
-    (positions + (LINE_CELLS - 1)) / LINE_CELLS
+    positions.div_ceil(LINE_CELLS)
 }
 
 // The bytes of a cell: a space, and two digits for each byte of a value.
@@ -33,6 +33,7 @@ fn cell_length(value_bytes: usize) -> usize
 // The five places of a line's first position, and its line feed.
 const PLACES_AND_LINE_FEED: usize = 6;
 
+// Positions and value bytes go as two, here and below: the width goes to `put_cells` by itself, and as a number.
 // The bytes of a page: those of a line, for each line.
 pub fn page_length(positions: usize, value_bytes: usize) -> usize
     requires { (positions ≤ 65536) × (value_bytes ≤ 16) }
@@ -41,17 +42,15 @@ pub fn page_length(positions: usize, value_bytes: usize) -> usize
     page_lines(positions) * (PLACES_AND_LINE_FEED + LINE_CELLS * cell_length(value_bytes))
 }
 
+// No twin of the writers: one `fill`, and the place behind it.
 // Writes so many spaces.
 fn put_spaces(out: &mut [u8], at: usize, count: usize) -> usize
     requires { at + count ≤ length out.old }
     ensures { Wrote at (spaces count) result out.old out.new }
 {
-    let mut i: usize = 0;
-    while i < count {
-        out[at + i] = b' ';
-        i += 1;
-    }
-    at + count
+    let next = at + count;
+    out[at..next].fill(b' ');
+    next
 }
 
 // Writes a cell: a space and the digits of a value.
@@ -63,6 +62,7 @@ fn put_cell(out: &mut [u8], at: usize, value: &[u8]) -> usize
     put_hex(out, next, value)
 }
 
+// By place and not by `chunks_exact`, which asks for a size of 1 at least: `put_page` is promised for values of no bytes too (`Pageable`).
 // Writes so many cells, those of the values from position `first` on.
 fn put_cells(
     out: &mut [u8],
@@ -77,19 +77,18 @@ fn put_cells(
         out.old out.new }
 {
     let mut next = at;
-    let mut from = first * value_bytes;
-    let mut cell: usize = 0;
-    while cell < count {
-        let end = from + value_bytes;
-        next = put_cell(out, next, &table[from..end]);
-        from = end;
-        cell += 1;
+    let start = first * value_bytes;
+    for cell in 0..count {
+        let from = start + cell * value_bytes;
+        next = put_cell(out, next, &table[from..from + value_bytes]);
     }
     next
 }
 
 // Writes so many cells, as put_cells does: values of one byte, which most boards have, go through a copy of its loop in
 // which the compiler knows their length.
+// Kept beside put_cells for speed: docs/DECISIONS.md, "Values of one byte".
+// Table and width stay two, since the width goes to put_cells by itself, and as a number: a struct of both would be taken apart here.
 fn put_values(
     out: &mut [u8],
     at: usize,
@@ -108,16 +107,6 @@ fn put_values(
     put_cells(out, at, first, count, value_bytes, table)
 }
 
-// How many cells of a line hold a value, of so many that are left.
-fn cells_held(left: usize) -> usize
-    ensures { result ≡ min 8 left }
-{
-    if left < LINE_CELLS {
-        return left;
-    }
-    LINE_CELLS
-}
-
 // Writes a line.
 fn put_line(
     out: &mut [u8],
@@ -133,7 +122,7 @@ fn put_line(
         out.old out.new }
 {
     let first = LINE_CELLS * line;
-    let held = cells_held(positions - first);
+    let held = LINE_CELLS.min(positions - first);
     let past = LINE_CELLS - held;
     let next = put_in_five_places(out, at, first as u32);
     let next = put_values(out, next, first, held, value_bytes, table);
@@ -148,12 +137,9 @@ pub fn put_page(out: &mut [u8], positions: usize, value_bytes: usize, table: &[u
     ensures { Wrote 0 (page positions value_bytes table.now) result
         out.old out.new }
 {
-    let lines = page_lines(positions);
-    let mut next: usize = 0;
-    let mut line: usize = 0;
-    while line < lines {
+    let mut next = 0;
+    for line in 0..page_lines(positions) {
         next = put_line(out, next, line, positions, value_bytes, table);
-        line += 1;
     }
     next
 }

@@ -7,18 +7,18 @@ use Prim.Native.Nat.{ℕ, ◌+◌, ◌*◌, ◌-◌, ◌≤◌, ◌<◌}
 use native.Mathlib.Omega.{arith}
 use lib.Dec.{ltb, leb, eqb}
 use lib.ListN.{length, get_or, take, drop, length-drop}
-use lib.Seq.{length-take-le, take_all}
+use lib.Seq.{length-take-le, take_all, drop-drop}
 use borrow.Author.Tests.{lt-ltb, le-ltb, le-leb, lt-leb, ltb-true, ltb-false, leb-false, eqb-true, eq-eqb, ne_eqb, not-false}
 use Rattle.grid.specs.Grid.{Board, board, board_refusal, arrays_long, seeds_long, words_long}
 use Rattle.keys.specs.Keys.{number_in, numbers_in, Lent, lent, key_long, sizes_refusal, lent_fault, deal_refusal, or_else}
-use Rattle.key_header.specs.Answers.{five_at}
-use Rattle.key_header.specs.declared.numbers.Five.{Five}
+use Rattle.key_header.specs.Answers.{Five, five_at}
 use Rattle.key_header.proofs.Reading.{five_rest}
 use Rattle.keys.proofs.Accepted.{passed, refusing, first_fits, next_fits, neither}
 use Rattle.keys.proofs.Cut.{numbers_cut}
-use Rattle.keys.proofs.Numbers.{five_good}
-use Rattle.call_answers.specs.Answers.{PutSays, DealSays, told, DealTells}
-use Rattle.call_answers.specs.declared.DealAnswer.{DealAnswer}
+use Rattle.call_answers.specs.Answers.{PutSays, DealSays, told, deal_answer, DealTells}
+use Rattle.std.specs.Prelude.{Result, ⊤}
+use Rattle.dealing.specs.Refused.{number_told}
+use Rattle.dealing.specs.declared.DealRefusal.{DealRefusal}
 use Rattle.call_answers.proofs.Telling.{says_number}
 use Rattle.call_answers.proofs.Putting.{room_there, answer_is, put, untouched}
 use Rattle.text.specs.Text.{refused_line}
@@ -35,22 +35,6 @@ all_behind from xs = take_all (length xs - from) (drop from xs) (omega (arith, l
 
 -- THE FIVE NUMBERS
 
--- each read behind the one before, p, N, μ, w and the point
-pub input_is : (bs : List ℕ) → let p = number_in bs in let n = number_in p.rest in let m = number_in n.rest in let w = number_in m.rest in let a = number_in w.rest in
-    input_in bs ≡ record {
-      good = (p.good && n.good) && (m.good && (w.good && a.good));
-      board = board p.value n.value m.value w.value;
-      point = a.value;
-      rest = a.rest;
-    }
-unfolding input_in numbers_in
-input_is bs =
-    let p = number_in bs in
-    let n = number_in p.rest in
-    let m = number_in n.rest in
-    let w = number_in m.rest in
-    let a = number_in w.rest in rw (five_good p.good n.good m.good w.good a.good)
-
 module _ (bs : List ℕ) (five : Five) (read : five ≡ five_at bs) where
   pub broken_input : five.whole ≡ false → dealing_output bs ≡ refused_line 10
   unfolding dealing_output dealing_refusal input_in five_at
@@ -58,45 +42,37 @@ module _ (bs : List ℕ) (five : Five) (read : five ≡ five_at bs) where
       let bad : (numbers_in 5 bs).good ≡ false = sym (ap (λ (f : Five). f.whole) read) ∙ none in rw bad
 
   module _ (whole : five.whole ≡ true) where
-    abbrev b : Board
-    b = board (get_or five.values 0 0) (get_or five.values 1 0) (get_or five.values 2 0) (get_or five.values 3 0)
-
     abbrev point : ℕ
     point = get_or five.values 4 0
 
+    -- what stands behind them, as the code cuts it out
     abbrev rest : List ℕ
-    rest = drop five.end bs
+    rest = take (length bs - five.end) (drop five.end bs)
 
-    abbrev asked : ℕ
-    asked = asked_refusal b point (length bs) (length bs - five.end)
+    module _ (b : Board) (is : b ≡ board (get_or five.values 0 0) (get_or five.values 1 0) (get_or five.values 2 0) (get_or five.values 3 0)) where
+      abbrev asked : ℕ
+      asked = asked_refusal b point (length bs) (length rest)
 
-    abbrev parts : Lent
-    parts = lent_in b point rest
+      read_so : input_in bs ≡ record { good = true; board = b; point = point; rest = rest }
+      unfolding input_in five_at
+      read_so =
+          let good : (numbers_in 5 bs).good ≡ true = sym (ap (λ (f : Five). f.whole) read) ∙ whole in
+          let values : (numbers_in 5 bs).values ≡ five.values = sym (ap (λ (f : Five). f.values) read) in
+          rw (good, values, all_behind five.end bs, five_rest bs five read, is)
 
-    read_so : input_in bs ≡ record { good = true; board = b; point = point; rest = rest }
-    unfolding input_in five_at
-    read_so =
-        let good : (numbers_in 5 bs).good ≡ true = sym (ap (λ (f : Five). f.whole) read) ∙ whole in
-        let values : (numbers_in 5 bs).values ≡ five.values = sym (ap (λ (f : Five). f.values) read) in rw (good, values, five_rest bs five read)
+      chain : dealing_refusal bs ≡ or_else asked (lent_refusal b (lent_in b point rest))
+      unfolding dealing_refusal
+      chain = rw read_so
 
-    chain : dealing_refusal bs ≡ or_else asked (lent_refusal b parts)
-    unfolding dealing_refusal
-    chain = rw (read_so, length-drop five.end bs)
+      pub asked_input : asked ≡ 0 → dealing_output bs ≡ dealt_output b (lent_in b point rest)
+      unfolding dealing_output dealt_output
+      asked_input none = rw (chain, next_fits asked (lent_refusal b (lent_in b point rest)) none, read_so)
 
-    accepted_input : asked ≡ 0 → dealing_output bs ≡ dealt_output b parts
-    unfolding dealing_output dealt_output
-    accepted_input none = rw (chain, next_fits asked (lent_refusal b parts) none, read_so)
-
-    pub asked_input : asked ≡ 0 → dealing_output bs ≡ dealt_output b (lent_in b point (take (length bs - five.end) (drop five.end bs)))
-    asked_input none = accepted_input none ∙ ap (λ (l : List ℕ). dealt_output b (lent_in b point l)) (sym (all_behind five.end bs))
-
-    pub refused_input : (n : ℕ) → n ≡ asked → (n ≡ 0 → ⊥) → dealing_output bs ≡ refused_line n
-    unfolding dealing_output
-    refused_input n e some =
-        let number : dealing_refusal bs ≡ n = chain ∙ first_fits asked (lent_refusal b parts) (λ z. some (e ∙ z)) ∙ sym e in rw (number, ne_eqb n 0 some)
-
-pub rest_length : (from n : ℕ) (bs : List ℕ) → length bs - from ≡ n → length (take (length bs - from) (drop from bs)) ≡ n
-rest_length from n bs e = ap length (all_behind from bs) ∙ length-drop from bs ∙ e
+      pub refused_input : (n : ℕ) → n ≡ asked → (n ≡ 0 → ⊥) → dealing_output bs ≡ refused_line n
+      unfolding dealing_output
+      refused_input n e some =
+          let number : dealing_refusal bs ≡ n = chain ∙ first_fits asked (lent_refusal b (lent_in b point rest)) (λ z. some (e ∙ z)) ∙ sym e in
+          rw (number, ne_eqb n 0 some)
 
 -- 1 TO 5, 6, 7
 
@@ -156,22 +132,25 @@ module _ (v c s w : ℕ) (xs : List ℕ) (long : length xs ≡ v + c + s + w) wh
   fourth_part = length-drop (v + c + s) xs ∙ omega arith
 
 -- the parts as the code cuts them
-cut : (b : Board) (a seeds words : ℕ) (xs : List ℕ) → seeds ≡ b.w + arrays_long b → words ≡ seeds + seeds_long b →
-    lent a (take b.w xs) (take (seeds - b.w) (drop b.w xs)) (take (words - seeds) (drop seeds xs)) (take (length xs - words) (drop words xs)) ≡ lent_in b a xs
+pub cut : (b : Board) (a arrays_end seeds_end : ℕ) (xs : List ℕ) {v behind cs behind_them ss ws : List ℕ} → arrays_end ≡ arrays_long b →
+    seeds_end ≡ seeds_long b → v ≡ take b.w xs → behind ≡ drop b.w xs → cs ≡ take arrays_end behind → behind_them ≡ drop arrays_end behind →
+    ss ≡ take seeds_end behind_them → ws ≡ drop seeds_end behind_them → lent a v cs ss ws ≡ lent_in b a xs
 unfolding lent_in
-cut b a seeds words xs s w =
-    let arrays : seeds - b.w ≡ arrays_long b = omega arith in
-    let held : words - seeds ≡ seeds_long b = omega arith in
-    rw (arrays, held, all_behind words xs, w, s)
+cut b a n m xs e f value behind arrays behind_them seeds words =
+    rw (value, arrays, seeds, words, behind_them, behind, e, f, drop-drop (arrays_long b) b.w xs, drop-drop (seeds_long b) (b.w + arrays_long b) xs)
 
-pub deal_cut : (b : Board) (a seeds words : ℕ) (xs : List ℕ) (d : DealAnswer) (r : ℕ) (o z : List ℕ) → seeds ≡ b.w + arrays_long b
-    → words ≡ seeds + seeds_long b →
-    DealTells b.p b.n b.wide b.w a (take b.w xs) (take (seeds - b.w) (drop b.w xs)) (take (words - seeds) (drop seeds xs))
-    (take (length xs - words) (drop words xs)) (told d) o z →
-    r ≡ (told d).number → Deals b (lent_in b a xs) r o z
+-- what Deal tells is the number of its answer
+told_number : (d : Result ⊤ DealRefusal) → number_told d ≡ (told (deal_answer d)).number
+unfolding told
+told_number (Result.Ok u) = refl
+told_number (Result.Err (DealRefusal.Plain r)) = refl
+told_number (Result.Err (DealRefusal.Fault f)) = refl
+
+pub deal_cut : (b : Board) (a : ℕ) (xs v cs ss ws : List ℕ) (d : Result ⊤ DealRefusal) (r : ℕ) (o z : List ℕ) → lent a v cs ss ws ≡ lent_in b a xs →
+    DealTells b.p b.n b.wide b.w a v cs ss ws (told (deal_answer d)) o z → r ≡ number_told d → Deals b (lent_in b a xs) r o z
 unfolding Deals
-deal_cut b a seeds words xs d r o z s w tells e =
-    subst (λ (l : Lent). Deals b l r o z) (cut b a seeds words xs s w) (says_number _ _ _ _ _ _ _ _ _ o z d r tells e)
+deal_cut b a xs v cs ss ws d r o z same tells e =
+    subst (λ (l : Lent). Deals b l r o z) same (says_number _ _ _ _ _ _ _ _ _ o z (deal_answer d) r tells (e ∙ told_number d))
 
 -- they stand inside
 pub parts_within : (b : Board) (xs : List ℕ) → length xs ≡ asked_bytes b → b.w + arrays_long b + seeds_long b ≤ length xs
@@ -236,11 +215,9 @@ module _ (b : Board) (a : ℕ) (xs : List ℕ) (accepted : board_refusal b ≡ 0
         let accepted : lent_refusal b (lent_in b a xs) ≡ 0 = sym number ∙ none in
         rw accepted (is ∙ sym (dealt_keys accepted).0, put _ (keys_of b (lent_in b a xs)) r o z as_put accepted)
 
-    pub dealt_refused : (answer : ℕ) (y : List ℕ) → (r ≡ 0 → ⊥) → Writes (refused_line r) answer z y → Writes (dealt_output b (lent_in b a xs)) answer o y
+    pub dealt_refused : (r ≡ 0 → ⊥) → (dealt_output b (lent_in b a xs) ≡ refused_line r) × (z ≡ o)
     unfolding dealt_output
-    dealt_refused answer y some w =
-        rw (← number, ne_eqb r 0 some)
-        (subst (λ (l : List ℕ). Writes (refused_line r) answer l y) (untouched _ (keys_of b (lent_in b a xs)) r o z as_put some) w)
+    dealt_refused some = (rw (← number, ne_eqb r 0 some), untouched _ (keys_of b (lent_in b a xs)) r o z as_put some)
 
 -- WHAT MAKES THE BUFFERS RIGHT
 

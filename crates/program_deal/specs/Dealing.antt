@@ -1,6 +1,8 @@
 -- The dealing program as a function from the input's bytes to the output's: document 01's "Two programs", whose sentences are quoted.
 -- Assumes nothing: these are definitions.
-use Rattle.std.specs.Prelude.{◌≡◌, Bool, ◌||◌, not, cond, List, ℕ, ◌+◌, ◌*◌, ltb, leb, eqb, length, get_or, take, drop}
+use Rattle.std.specs.Prelude.{◌≡◌, Bool, ◌||◌, not, cond, List, ℕ, ◌+◌, ◌*◌, ltb, leb, eqb, length, get_or, take, drop, Result}
+use Rattle.refusal.specs.Refusing.{refusal_number}
+use Rattle.refusal.specs.declared.Refusal.{Refusal}
 use Rattle.grid.specs.Grid.{Board, board, board_refusal, arrays_long, seeds_long, words_long}
 use Rattle.keys.specs.Keys.{numbers_in, Lent, lent_fault, key_long, keys_from, or_else, lent}
 use Rattle.call_answers.specs.Answers.{DealSays}
@@ -75,3 +77,8 @@ dealt_output b l = cond (eqb (lent_refusal b l) 0) (keys_of b l) (refused_line (
 
 unfoldable pub Deals : Board → Lent → (r : ℕ) → (out out_now : List ℕ) → Type 0
 Deals b l r o z = DealSays b.p b.n b.wide b.w l.point l.value l.arrays l.seeds l.words r o z
+
+-- what is left of the output where the keys are written, which are so many bytes, and where the input is refused
+abbrev pub PutDealt : (input : List ℕ) → Result ℕ Refusal → (out out_now : List ℕ) → Type 0
+PutDealt bs (Result.Ok long) o z = Writes (dealing_output bs) long o z
+PutDealt bs (Result.Err refusal) o z = (dealing_output bs ≡ refused_line (refusal_number refusal)) × (z ≡ o)

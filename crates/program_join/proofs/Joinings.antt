@@ -17,9 +17,8 @@ use Rattle.grid.proofs.Facts.{BoardIn, board_in}
 use Rattle.keys.specs.Keys.{head_in, or_else, head_refusal}
 use Rattle.keys.proofs.Accepted.{first_fits, next_fits, neither, head_fine}
 use Rattle.keys.proofs.Cut.{head_cut}
-use Rattle.key_header.specs.Answers.{checked_by}
-use Rattle.key_header.specs.declared.Heading.{Heading}
-use Rattle.key_header.specs.declared.KeyCheck.{KeyCheck}
+use Rattle.key_header.specs.Answers.{KeyCheck, checked_by, heading_told}
+use Rattle.key_header.specs.declared.header.Heading.{Heading}
 use Rattle.key_header.proofs.Reading.{refused_says, accepted_says}
 use Rattle.call_answers.specs.Answers.{PutSays}
 use Rattle.join_keys_call.specs.JoinKeys.{keys_refusal, joined_table, JoinKeysSays}
@@ -38,7 +37,7 @@ module _ (bs : List ℕ) where
   pub long_own : (n : ℕ) → KeyCheck.Refused n ≡ checked_by (head_refusal (head_in bs)) bs → n ≡ or_else (head_refusal (head_in bs)) 12
   long_own n e = let says = refused_says bs n _ e in sym (first_fits (head_refusal (head_in bs)) 12 says.1 ∙ says.0)
 
-  pub long_length : (h : Heading) → KeyCheck.Accepted h ≡ checked_by (head_refusal (head_in bs)) bs → 12 ≡ or_else (head_refusal (head_in bs)) 12
+  pub long_length : (h : Heading) → KeyCheck.Accepted (heading_told h) ≡ checked_by (head_refusal (head_in bs)) bs → 12 ≡ or_else (head_refusal (head_in bs)) 12
   long_length h e = sym (next_fits (head_refusal (head_in bs)) 12 (accepted_says bs h _ e).none)
 
 -- AS JOIN KEYS
@@ -151,30 +150,30 @@ text_most bs z p ts =
     omega (arith, table_most p b.n b.w ts few, table_fits bs z)
 
 -- the header of an accepted input, as the code has it
-module _ (bs : List ℕ) (h : Heading) (read : KeyCheck.Accepted h ≡ checked_by (head_refusal (head_in bs)) bs) where
-  same_board : (head_in bs).board ≡ board_of h.header.board
+module _ (bs : List ℕ) (h : Heading) (read : KeyCheck.Accepted (heading_told h) ≡ checked_by (head_refusal (head_in bs)) bs) where
+  same_board : (head_in bs).board ≡ board_of h.board
   same_board = (accepted_says bs h _ read).board_is
 
-  pub table_size : joining_refusal bs ≡ 0 → h.header.board.positions * h.header.board.value_bytes ≤ 65536
+  pub table_size : joining_refusal bs ≡ 0 → h.board.positions * h.board.value_bytes ≤ 65536
   unfolding board
   table_size z = subst (λ (b : Board). b.n * b.w ≤ 65536) same_board (table_fits bs z)
 
-  pub table_cut : joining_refusal bs ≡ 0 → (t : List ℕ) → length t ≡ 65536 →
-      length (take (h.header.board.positions * h.header.board.value_bytes) t) ≡ h.header.board.positions * h.header.board.value_bytes
-  table_cut z t room = length-take-le (h.header.board.positions * h.header.board.value_bytes) t (omega (arith, table_size z))
+  pub table_cut : joining_refusal bs ≡ 0 → (t : List ℕ) (long : ℕ) → long ≡ h.board.positions * h.board.value_bytes → length t ≡ 65536 →
+      length (take long t) ≡ long
+  table_cut z t long is room = length-take-le long t (omega (arith, table_size z))
 
   pub text_room : joining_refusal bs ≡ 0 → (p : ℕ) (ts : List ℕ) (most : ℕ) → 589879 ≤ most →
-      0 + length (table_text p h.header.board.positions h.header.board.value_bytes ts) ≤ most
+      0 + length (table_text p h.board.positions h.board.value_bytes ts) ≤ most
   unfolding board
   text_room z p ts most enough =
       let short = subst (λ (b : Board). length (table_text p b.n b.w ts) ≤ 589879) same_board (text_most bs z p ts) in omega arith
 
-  pub named_board : (answer : ℕ) (t o z : List ℕ) (p n w : ℕ) → Wrote 0 (table_text p n w (take (n * w) t)) answer o z →
-      p ≡ h.header.board.players → n ≡ h.header.board.positions → w ≡ h.header.board.value_bytes →
+  pub named_board : (answer : ℕ) (t o z : List ℕ) (p n w long : ℕ) → Wrote 0 (table_text p n w (take long t)) answer o z →
+      p ≡ h.board.players → n ≡ h.board.positions → w ≡ h.board.value_bytes → long ≡ n * w →
       Writes (table_text (head_in bs).board.p (head_in bs).board.n (head_in bs).board.w (take ((head_in bs).board.n * (head_in bs).board.w) t)) answer o z
   unfolding board
-  named_board answer t o z p n w says players positions value =
-      rw (same_board, ← players, ← positions, ← value) (writes_wrote (table_text p n w (take (n * w) t)) says)
+  named_board answer t o z p n w long says players positions value is =
+      rw (same_board, ← players, ← positions, ← value, ← is) (writes_wrote (table_text p n w (take long t)) says)
 
 -- WHAT MAKES THE BUFFERS RIGHT
 

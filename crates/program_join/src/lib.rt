@@ -4,35 +4,35 @@
 #![tactic(auto)]
 
 ghost use Rattle.std.specs.Prelude.{◌≡◌, ◌*◌, ◌≤◌, length, take};
+ghost use Rattle.refusal.specs.Refusing.{refusal_number, answer_number};
 ghost use Rattle.keys.specs.Keys.{head_in, or_else, head_refusal};
 ghost use Rattle.text.specs.Text.{table_text};
 ghost use Rattle.call_answers.specs.Answers.{PutSays};
 ghost use Rattle.program_output.specs.Output.{most_bytes, text_bytes, Writes};
 ghost use Rattle.program_join.specs.Joining.{joining_refusal, joined, Joins, JoinsRead, JoiningWhole};
 
-use key_check::check::REFUSED_LENGTH;
-use key_header::{KeyCheck, check_header};
+use key_header::check_header;
 use nosingginger::join_keys;
-use nosingginger::refusals::ACCEPTED;
 use program_output::{MOST_BYTES, put_refusal};
+use refusal::Refusal;
 
 // The number of an input that is longer than any: the first key's own, 10, 1 to 5 and 11, or else 12.
-fn long_refusal(input: &[u8]) -> u32
-    ensures { result ≡ or_else (head_refusal (head_in input.now)) 12 }
+fn long_refusal(input: &[u8]) -> Refusal
+    ensures { refusal_number result ≡ or_else (head_refusal (head_in input.now)) 12 }
 {
     match check_header(input) {
-        KeyCheck::Refused(number) => number,
-        KeyCheck::Accepted(_) => REFUSED_LENGTH,
+        Err(refusal) => refusal,
+        Ok(_) => Refusal::Length,
     }
 }
 
 // Joins the keys of an input into the front of a table, or answers the number that refuses.
-fn join_input(input: &[u8], table: &mut [u8]) -> u32
+fn join_input(input: &[u8], table: &mut [u8]) -> Result<(), Refusal>
     requires { length table.old ≡ most_bytes }
-    ensures { PutSays (joining_refusal input.now) (joined input.now) result table.old table.new }
+    ensures { PutSays (joining_refusal input.now) (joined input.now) (answer_number result) table.old table.new }
 {
     if MOST_BYTES < input.len() {
-        return long_refusal(input);
+        return Err(long_refusal(input));
     }
     join_keys(input, table)
 }
@@ -41,14 +41,14 @@ fn join_input(input: &[u8], table: &mut [u8]) -> u32
 fn put_joined(input: &[u8], table: &[u8], output: &mut [u8]) -> usize
     requires input_value { joining_refusal input.now ≡ 0 }
     requires table_len { (length table.now ≡ most_bytes) × (text_bytes ≤ length output.old) }
-    ensures { Writes (table_text (head_in input.now).board.p (head_in input.now).board.n (head_in input.now).board.w (take ((head_in input.now).board.n * (head_in input.now).board.w) table.now)) result output.old output.new }
+    ensures { Writes (table_text (head_in input.now).board.p (head_in input.now).board.n (head_in input.now).board.w
+        (take ((head_in input.now).board.n * (head_in input.now).board.w) table.now)) result output.old output.new }
 {
-    let KeyCheck::Accepted(heading) = check_header(input) else {
-        return 0;
+    let Ok(heading) = check_header(input) else {
+        unreachable!()
     };
-    let header = heading.header;
-    let board = header.board;
-    let end = (board.positions * board.value_bytes) as usize;
+    let board = heading.board;
+    let end = board.table_length();
     text::put_table(
         output,
         0,
@@ -65,13 +65,13 @@ pub fn joining_program(input: &[u8], table: &mut [u8; 65536], output: &mut [u8; 
 {
     let joined: &mut [u8] = table;
     let out: &mut [u8] = output;
-    let refusal = join_input(input, joined);
-    if refusal != ACCEPTED {
-        return put_refusal(refusal, out);
+    match join_input(input, joined) {
+        Err(refusal) => put_refusal(refusal.number(), out),
+        Ok(()) => put_joined(input, joined, out),
     }
-    put_joined(input, joined, out)
 }
 
+// It answers 0 and no `Option`: its clause, `JoinsRead`, says so. Its buffer has a type's length and a count beside it, as its must-fail edits ask.
 // The joining program on a buffer, of which so many bytes were read; 0, with nothing changed, where the buffer has not so many.
 pub fn run(
     input: &[u8; 65537],

@@ -1,7 +1,7 @@
 -- WHAT IS WRONG WITH ARRAYS of specs/BadArrays.antt, kept: the terms are those of the crates grid and call_answers. Assumes nothing.
 use native.Mathlib.Omega.{arith}
 use Rattle.grid.proofs.Faults.{fault_where_bad, place_is_first}
-use Rattle.call_answers.proofs.Telling.{told_apart, never_given, no_place, two_numbers, first_told, none_missed}
+use Rattle.call_answers.proofs.Telling.{told_apart, answers_told_apart, never_given, no_place, two_numbers, first_told, none_missed}
 use Rattle.promises.specs.BadArrays.{DealsFirstFault, BadArrays}
 
 deals_first_fault : DealsFirstFault
@@ -17,4 +17,10 @@ deals_first_fault p n m w a v cs ss ws r o z tells =
 
 pub bad_arrays : BadArrays
 bad_arrays =
-    record { fault_where_bad = fault_where_bad; place_is_first = place_is_first; deals_first_fault = deals_first_fault; told_apart = told_apart }
+    record {
+      fault_where_bad = fault_where_bad;
+      place_is_first = place_is_first;
+      deals_first_fault = deals_first_fault;
+      told_apart = told_apart;
+      answers_told_apart = answers_told_apart;
+    }

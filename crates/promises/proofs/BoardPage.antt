@@ -3,8 +3,7 @@
 use mathlib.Core.Path.{◌≡◌, sym, ap, ◌∙◌, subst}
 use mathlib.Core.Bool.{Bool, true, false, cond}
 use mathlib.Core.List.{List}
-use Prim.Native.Nat.{ℕ, ◌+◌, ◌*◌, ◌≤◌, ◌<◌}
-use native.Mathlib.Omega.{arith}
+use Prim.Native.Nat.{ℕ, ◌*◌, ◌<◌}
 use native.Mathlib.Nat.{zero-add}
 use lib.Dec.{eqb}
 use lib.ListN.{length, take, drop}
@@ -19,16 +18,14 @@ use Rattle.keys.proofs.Lists.{row_word}
 use Rattle.keys.proofs.Dealing.{lent_in}
 use Rattle.keys.proofs.Promise.{point_row}
 use Rattle.digits.specs.Digits.{hex}
-use Rattle.digits.specs.Reading.{number_read, hex_read}
-use Rattle.page.specs.Page.{entry_at, page, page_lines, line_long, page_long, Pageable}
-use Rattle.page.specs.Found.{digits_at, PageIsLong, CellsFound, CellsRead, PastBlank, NumbersFound, LinesNumbered, PageTells}
+use Rattle.page.specs.Page.{entry_at, page, Pageable}
+use Rattle.page.specs.Found.{PageIsLong, CellsFound, CellsRead, PastBlank, NumbersFound, LinesNumbered, PageTells}
 use Rattle.page.proofs.Found as found
-use Rattle.call_answers.specs.Answers.{says, page_refusal, PageSays}
-use Rattle.call_answers.specs.declared.Answer.{Answer}
+use Rattle.call_answers.specs.Answers.{Answer, says, PageSays}
 use Rattle.call_answers.proofs.Putting.{take_front}
 use Rattle.call_answers.proofs.Paging.{page_0}
 use Rattle.promises.specs.BoardPage.{ReadsBack, PagesRead, PagesTell, AcceptedPages, DealsOnAPage, BoardPage}
-use Rattle.promises.specs.Calls.{Dealt, DealsOpen}
+use Rattle.promises.specs.Calls.{DealsOpen}
 use Rattle.promises.proofs.DealtCalls.{left}
 use Rattle.promises.proofs.Calls.{deals_open}
 use Rattle.promises.proofs.WrittenPages.{page_written}

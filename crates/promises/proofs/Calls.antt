@@ -2,17 +2,15 @@
 -- answer 0 is a definition's bytes, and of those the promises of the crate keys hold under expansion. Assumes nothing.
 use mathlib.Core.Path.{◌≡◌, sym, ap, ◌∙◌}
 use mathlib.Core.List.{List, [], ◌∷◌}
-use Prim.Native.Nat.{ℕ, zero, suc, ◌+◌, ◌*◌, ◌≤◌}
+use Prim.Native.Nat.{ℕ, ◌*◌}
 use native.Mathlib.Omega.{arith}
-use lib.ListN.{length, take, drop, length-drop}
-use lib.Seq.{length-take-le}
+use lib.ListN.{length, take, drop}
 use Rattle.xor.specs.Xor.{bytes_good}
-use Rattle.xor.proofs.Laws.{length-xors, word_zeros}
 use Rattle.grid.specs.Grid.{board}
 use Rattle.keys.specs.Keys.{key, key_refusal, head_in, opened, table, lent}
 use Rattle.keys.specs.Promise.{entry, DealtAccepted, AcceptedIsDrawn, held_in, HeldIsRead}
 use Rattle.key_check.specs.Checked.{head_numbers, checked_as, key_checked}
-use Rattle.key_header.specs.declared.KeyCheck.{KeyCheck}
+use Rattle.key_header.specs.Answers.{KeyCheck}
 use Rattle.keys.proofs.Promise.{dealt_accepted, dealt_board, dealt_player, accepted_is_drawn, held_is_read}
 use Rattle.call_answers.specs.Answers.{key_rule, DealSays, OpenOneSays, OpenAllSays, DrawSays}
 use Rattle.call_answers.specs.Answers.{joined_shares, JoinSays, ExpandSays, PageSays}

@@ -20,8 +20,7 @@ use Rattle.keys.proofs.Dealing.{lent_in}
 use Rattle.keys.proofs.Promise.{dealt_accepted, dealt_board, table_long, full_tables_join}
 use Rattle.cards.specs.Cards.{picked}
 use Rattle.cards.proofs.Sums.{picked_over, picked_point}
-use Rattle.call_answers.specs.Answers.{key_rule, share_fits, DrawSays, joined_shares, JoinSays}
-use Rattle.call_answers.specs.declared.Answer.{Answer}
+use Rattle.call_answers.specs.Answers.{Answer, key_rule, share_fits, DrawSays, joined_shares, JoinSays}
 use Rattle.call_answers.proofs.Sharing.{shares_0}
 use Rattle.call_answers.proofs.Putting.{answer_is, put, take_front}
 use Rattle.promises.specs.Calls.{key_part}

@@ -20,12 +20,11 @@ use Rattle.keys.specs.Keys.{Lent, dealing, opened, key, keys_from, key_long, dea
 use Rattle.keys.specs.Promise.{lent_good, point_table, DealtAccepted, KeysOpen, TablesJoin}
 use Rattle.keys.proofs.Dealing.{lent_in}
 use Rattle.keys.proofs.Promise.{dealt_accepted, dealt_board, dealt_word, keys_open, tables_join}
-use Rattle.call_answers.specs.Answers.{says, key_rule, DealSays, LongSays, OpenOneSays, OpenAllSays, joined_shares, JoinSays}
+use Rattle.call_answers.specs.Answers.{Answer, says, key_rule, DealSays, LongSays, OpenOneSays, OpenAllSays, joined_shares, JoinSays}
 use Rattle.writer.specs.Written.{in_front}
 use Rattle.seed_rows.specs.Rows.{rule}
 use Rattle.join_keys_call.specs.JoinKeys.{JoinKeysSays}
 use Rattle.promises.specs.Calls.{Dealt, key_part, PastKept}
-use Rattle.call_answers.specs.declared.Answer.{Answer}
 use Rattle.keys.proofs.Accepted.{neither}
 use Rattle.call_answers.proofs.Sharing.{shares_0}
 use Rattle.call_answers.proofs.Putting.{room_there, answer_is, put, take_front, drop_front, length_front}

@@ -9,8 +9,7 @@ use lib.ListN.{length}
 use Rattle.writer.specs.Written.{in_front}
 use Rattle.page.specs.Page.{page, page_long, Pageable}
 use Rattle.page.proofs.Laws.{page_is_so_long}
-use Rattle.call_answers.specs.Answers.{says, page_refusal, PageSays}
-use Rattle.call_answers.specs.declared.Answer.{Answer}
+use Rattle.call_answers.specs.Answers.{Answer, says, page_refusal, PageSays}
 use Rattle.call_answers.proofs.Putting.{put}
 use Rattle.call_answers.proofs.Paging.{page_fits}
 

@@ -5,7 +5,7 @@ use Rattle.grid.specs.Grid.{Board, board, grid_rows, arrays_good}
 use Rattle.grid.specs.Faults.{has_place, FirstFault}
 unfoldable pub use Rattle.grid.specs.Faults.{FaultWhereBad, PlaceIsFirst}
 use Rattle.call_answers.specs.Answers.{Told, DealTells}
-unfoldable pub use Rattle.call_answers.specs.Answers.{ToldApart}
+unfoldable pub use Rattle.call_answers.specs.Answers.{ToldApart, AnswersToldApart}
 
 -- what an answer of Deal says of the arrays of a board and a point
 pub record PlaceTold (b : Board) (point : ℕ) (arrays : List ℕ) (r : Told) : Type 0 where
@@ -34,5 +34,6 @@ pub record BadArrays : Type 0 where
   pub place_is_first : PlaceIsFirst
   -- of the call: what Deal answers
   pub deals_first_fault : DealsFirstFault
-  -- what it tells fixes its answer
+  -- what it tells fixes its answer, and so the code's
   pub told_apart : ToldApart
+  pub answers_told_apart : AnswersToldApart

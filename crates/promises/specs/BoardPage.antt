@@ -10,8 +10,7 @@ use Rattle.page.specs.Page.{entry_at, page_lines, line_long, page_long}
 use Rattle.page.specs.Found.{digits_at}
 unfoldable pub use Rattle.page.specs.Found.{LinesLong, PageIsLong, CellsFound, CellsRead, PastBlank, CellsApart}
 unfoldable pub use Rattle.page.specs.Found.{LinesEnd, NumbersFound, LinesNumbered, PageTells}
-use Rattle.call_answers.specs.Answers.{PageSays}
-use Rattle.call_answers.specs.declared.Answer.{Answer}
+use Rattle.call_answers.specs.Answers.{Answer, PageSays}
 use Rattle.join_keys_call.specs.JoinKeys.{JoinKeysSays}
 use Rattle.promises.specs.Calls.{Dealt}
 

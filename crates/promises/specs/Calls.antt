@@ -8,14 +8,13 @@ use Rattle.grid.specs.Grid.{Board, board, Dealing, dealing_good, held}
 use Rattle.grid.specs.Joining.{over}
 use Rattle.keys.specs.Keys.{lent, dealing, key_refusal, head_in, key_long, AcceptedAs}
 use Rattle.key_check.specs.Checked.{checked_as, key_checked}
-use Rattle.key_header.specs.declared.KeyCheck.{KeyCheck}
+use Rattle.key_header.specs.Answers.{KeyCheck}
 use Rattle.keys.specs.Promise.{entry, point_table, held_in}
-use Rattle.call_answers.specs.Answers.{DealSays, LongSays, OpenOneSays, OpenAllSays, DrawSays, JoinSays}
+use Rattle.call_answers.specs.Answers.{Answer, DealSays, LongSays, OpenOneSays, OpenAllSays, DrawSays, JoinSays}
 use Rattle.call_answers.specs.Answers.{ExpandSays, PageSays}
 use Rattle.seed_rows.specs.Rows.{rule}
 use Rattle.writer.specs.Written.{in_front}
 use Rattle.join_keys_call.specs.JoinKeys.{JoinKeysSays}
-use Rattle.call_answers.specs.declared.Answer.{Answer}
 
 -- A DEAL THAT WAS ANSWERED BY 0: Deal was lent bytes and left `keys_now` in its output; Key length was asked for the same board
 pub record Dealt (p n m w point : ℕ) (value : List ℕ) (long : Answer) (keys_now : List ℕ) : Type 0 where

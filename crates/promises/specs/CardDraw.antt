@@ -9,8 +9,7 @@ use Rattle.grid.specs.Joining.{over}
 use Rattle.keys.specs.Keys.{Lent, key, key_refusal, head_in, table}
 use Rattle.keys.specs.Promise.{RuleGood, lent_good}
 use Rattle.cards.specs.Cards.{card, at_share, picked}
-use Rattle.call_answers.specs.Answers.{share_fits, DrawSays, OpenAllSays, JoinSays}
-use Rattle.call_answers.specs.declared.Answer.{Answer}
+use Rattle.call_answers.specs.Answers.{Answer, share_fits, DrawSays, OpenAllSays, JoinSays}
 use Rattle.promises.specs.Calls.{Dealt, key_part}
 
 -- "the wanted card", where the value of one byte is odd; "an even value gives zeros"

@@ -5,7 +5,7 @@ use Prim.Native.Nat.{ℕ, zero, suc, ◌+◌, ◌*◌, ◌-◌, ◌/◌, ◌%◌
 use native.Mathlib.Omega.{arith}
 use native.Mathlib.Nat.{not-suc-le-zero}
 use lib.ListN.{length, take, drop, length-drop}
-use lib.Seq.{take_at, take_all, take-take, drop_at, drop-drop, length-take-le}
+use lib.Seq.{take_at, drop_at, drop-drop}
 use Rattle.xor.specs.Xor.{xors, zeros}
 use Rattle.xor.proofs.Laws.{xors_assoc}
 use Rattle.chacha20.specs.Expand.{block}
@@ -34,44 +34,33 @@ block_at (suc k) c (suc i) ss h =
     (sym (drop-drop (64 * i) 64 (first ++ rest)) ∙ ap (λ (l : List ℕ). drop (64 * i) l) (drop_at first rest 64 (block_long (take 32 ss) c))) in
     rw behind (block_at k c i (drop 32 ss) (omega arith) ∙ rw (drop-drop (32 * i) 32 ss, seed))
 
--- what the code takes out of the four blocks is a part of a row
-pub row_of_four : (i at c skip had n : ℕ) (ss made : List ℕ) → i < 4 → c ≡ at / 64 → skip ≡ at % 64 → skip + n ≤ 64 → had ≡ n → made ≡ blocks_at 4 c ss →
-    take (64 * i + skip + had - (64 * i + skip)) (drop (64 * i + skip) made) ≡ expand_from at n (take 32 (drop (32 * i) ss))
-row_of_four i at c skip had n ss made h c_is skip_is room e is =
+-- what the code takes out of one of the four blocks is a part of a row
+pub row_of_four : (i at c skip had n : ℕ) (ss made one : List ℕ) → i < 4 → c ≡ at / 64 → skip ≡ at % 64 → skip + n ≤ 64 → had ≡ n → made ≡ blocks_at 4 c ss →
+    one ≡ take 64 (drop (64 * i) made) → take (skip + had - skip) (drop skip one) ≡ expand_from at n (take 32 (drop (32 * i) ss))
+row_of_four i at c skip had n ss made one h c_is skip_is room e is one_is =
     let seed = take 32 (drop (32 * i) ss) in
-    let part : 64 * i + skip + had - (64 * i + skip) ≡ n = omega arith in
-    let one : take (skip + n) (drop (64 * i) made) ≡ key_stream (skip + n) c seed (zeros 12) =
-    sym (take-take (skip + n) 64 (drop (64 * i) made) room) ∙ rw (is, block_at 4 c i ss h, block_is seed c)
-    (sym (key_stream_short (skip + n) c seed (zeros 12) room)) in
-    let long : skip + n - skip ≡ n = omega arith in
-    rw (part, ← (drop-drop skip (64 * i) made))
-    (ap (λ (k : ℕ). take k (drop skip (drop (64 * i) made))) (sym long) ∙ stretch_made at n c skip (skip + n) seed (drop (64 * i) made) c_is skip_is refl one)
+    let front : take (skip + n) one ≡ key_stream (skip + n) c seed (zeros 12) =
+    rw (one_is, is, block_at 4 c i ss h, block_is seed c) (sym (key_stream_short (skip + n) c seed (zeros 12) room)) in
+    rw e (stretch_made at n c skip (skip + n) seed one c_is skip_is refl front)
 
--- four seeds as the code cuts them out
-module _ (ss : List ℕ) (taken : ℕ) where
-  part : 32 * taken + 4 * 32 - 32 * taken ≡ 128
-  part = omega arith
-
-  pub four_long : 32 * (taken + 4) ≤ length ss → length (take (32 * taken + 4 * 32 - 32 * taken) (drop (32 * taken) ss)) ≡ 128
-  four_long h = rw part (length-take-le 128 (drop (32 * taken) ss) (omega (arith, length-drop (32 * taken) ss)))
-
+module _ (ss : List ℕ) (fours s n : ℕ) (old : List ℕ) {out new : List ℕ} (had : ℕ) (e : had ≡ n) (so_far : out ≡ xors old (rows_joined (4 * fours) s n ss)) where
   -- a turn of the loop: four seeds more
-  pub four_more : (s n : ℕ) (old : List ℕ) {out new : List ℕ} (had after : ℕ) → had ≡ n → out ≡ xors old (rows_joined taken s n ss) →
-      new ≡ xors out (rows_joined 4 s had (take (32 * taken + 4 * 32 - 32 * taken) (drop (32 * taken) ss))) →
-      after ≡ taken + 4 → new ≡ xors old (rows_joined after s n ss)
-  four_more s n old {out} {new} had after e so_far is next =
-      is ∙ rw (so_far, e, part, next, rows_of_front 4 s n 128 (drop (32 * taken) ss) (omega arith), rows_add taken 4 s n ss)
-      (xors_assoc old (rows_joined taken s n ss) (rows_joined 4 s n (drop (32 * taken) ss)))
+  pub four_more : (four : List ℕ) → four ≡ take 128 (drop (128 * fours) ss) → new ≡ xors out (rows_joined 4 s had four) →
+      new ≡ xors old (rows_joined (4 * (fours + 1)) s n ss)
+  four_more four four_is is =
+      let place : 128 * fours ≡ 32 * (4 * fours) = omega arith in
+      let next : 4 * (fours + 1) ≡ 4 * fours + 4 = omega arith in
+      is
+      ∙ rw (so_far, e, four_is, place, next, rows_of_front 4 s n 128 (drop (32 * (4 * fours)) ss) (omega arith), rows_add (4 * fours) 4 s n ss)
+      (xors_assoc old (rows_joined (4 * fours) s n ss) (rows_joined 4 s n (drop (32 * (4 * fours)) ss)))
 
   -- the seeds behind those taken by fours
-  pub rest_more : (s n : ℕ) (old : List ℕ) {out new : List ℕ} (had : ℕ) → had ≡ n → 32 * taken ≤ length ss → out ≡ xors old (rows_joined taken s n ss) →
-      new ≡ xors out (rows_joined (length (take (length ss - 32 * taken) (drop (32 * taken) ss)) / 32) s had
-      (take (length ss - 32 * taken) (drop (32 * taken) ss))) →
-      new ≡ xors old (rows_joined (length ss / 32) s n ss)
-  rest_more s n old {out} {new} had e h so_far is =
-      let left = length-drop (32 * taken) ss in
-      let rest : take (length ss - 32 * taken) (drop (32 * taken) ss) ≡ drop (32 * taken) ss = take_all (length ss - 32 * taken) (drop (32 * taken) ss) (omega arith) in
-      let all : taken + length (drop (32 * taken) ss) / 32 ≡ length ss / 32 = omega arith in
+  pub rest_more : (rest : List ℕ) → fours ≡ length ss / 128 → rest ≡ drop (length ss / 128 * 128) ss →
+      new ≡ xors out (rows_joined (length rest / 32) s had rest) → new ≡ xors old (rows_joined (length ss / 32) s n ss)
+  rest_more rest fours_is rest_is is =
+      let place : length ss / 128 * 128 ≡ 32 * (4 * fours) = omega arith in
+      let left = length-drop (32 * (4 * fours)) ss in
+      let all : 4 * fours + length (drop (32 * (4 * fours)) ss) / 32 ≡ length ss / 32 = omega arith in
       is
-      ∙ rw (so_far, e, rest, ← all, rows_add taken (length (drop (32 * taken) ss) / 32) s n ss)
-      (xors_assoc old (rows_joined taken s n ss) (rows_joined (length (drop (32 * taken) ss) / 32) s n (drop (32 * taken) ss)))
+      ∙ rw (so_far, e, rest_is, place, ← all, rows_add (4 * fours) (length (drop (32 * (4 * fours)) ss) / 32) s n ss)
+      (xors_assoc old (rows_joined (4 * fours) s n ss) (rows_joined (length (drop (32 * (4 * fours)) ss) / 32) s n (drop (32 * (4 * fours)) ss)))

@@ -78,9 +78,3 @@ pub rows_turn : (k s n : ℕ) (ss xs : List ℕ) {out new row : List ℕ} → ou
     new ≡ xors xs (rows_joined (k + 1) s n ss)
 rows_turn k s n ss xs {out} {new} {row} so_far row_is is =
     is ∙ rw (so_far, row_is, add-one, rows_snoc k s n ss) (xors_assoc xs (rows_joined k s n ss) (expand_from s n (take 32 (drop (32 * k) ss))))
-
--- a seed's row as the code cuts the seed out
-pub row_is : (s had n from : ℕ) (ss : List ℕ) → had ≡ n → expand_from s had (take (from + 32 - from) (drop from ss)) ≡ expand_from s n (take 32 (drop from ss))
-row_is s had n from ss e =
-    let long : from + 32 - from ≡ 32 = omega arith in
-    rw (long, e)

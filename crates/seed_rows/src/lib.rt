@@ -4,39 +4,41 @@
 // those of the seeds left over, one by one. Assumes nothing.
 #![tactic(auto)]
 
-ghost use Rattle.std.specs.Prelude.{◌≡◌, ◌+◌, ◌*◌, ◌/◌, ◌%◌, ◌≤◌, length};
+ghost use Rattle.std.specs.Prelude.{◌≡◌, ◌+◌, ◌/◌, ◌%◌, ◌≤◌, length};
 ghost use Rattle.xor.specs.Xor.{xors};
 ghost use Rattle.seed_rows.specs.Rows.{rows_joined};
 
+use chacha20_lane_blocks::four_seeds;
 use grid::board::SEED_BYTES;
 use seed_row::{BLOCK_BYTES, next_end, xor_row};
+use xor::xor_into;
+
+// Bytes of four seeds.
+const FOUR_SEEDS_BYTES: usize = 128;
 
 // Bytes of three blocks. Where more blocks hold what is wanted of a row, four of each seed are made as quickly as one
 // of each of four seeds.
 const THREE_BLOCKS_BYTES: usize = 192;
 
+// `made` and `out` go as two, here and below: the room is lent through every turn, the output part by part.
 // XORs the rows of four seeds from byte `at` on into `out`, as many bytes as one block of each holds. `made` is room for
 // these blocks.
-fn xor_four_blocks(seeds: &[u8], at: usize, made: &mut [u8], out: &mut [u8])
-    requires { (length seeds.now ≡ 128) × (at ≤ 4096) × (length made.old ≡ 256)
-        × (at % 64 + length out.old ≤ 64) }
+fn xor_four_blocks(seeds: &[u8; 128], at: usize, made: &mut [u8; 256], out: &mut [u8])
+    requires { (at ≤ 4096) × (at % 64 + length out.old ≤ 64) }
     ensures { out.new ≡ xors out.old
         (rows_joined 4 at (length out.old) seeds.now) }
 {
     let skip = at % BLOCK_BYTES;
-    chacha20_lane_blocks::four_seeds(seeds, (at / BLOCK_BYTES) as u32, made);
-    let mut lane: usize = 0;
-    while lane < 4 {
-        let from = BLOCK_BYTES * lane + skip;
-        let end = from + out.len();
-        xor::xor_into(out, &made[from..end]);
-        lane += 1;
+    four_seeds(seeds, (at / BLOCK_BYTES) as u32, made);
+    let (blocks, _) = made.as_chunks::<BLOCK_BYTES>();
+    for block in blocks {
+        xor_into(out, &block[skip..skip + out.len()]);
     }
 }
 
 // XORs the rows of four seeds from byte `start` on into `out`, block by block. `made` is room for four blocks.
-fn xor_four(seeds: &[u8], start: usize, made: &mut [u8], out: &mut [u8])
-    requires { (length seeds.now ≡ 128) × (start + length out.old ≤ 4096) × (length made.old ≡ 256) }
+fn xor_four(seeds: &[u8; 128], start: usize, made: &mut [u8; 256], out: &mut [u8])
+    requires { start + length out.old ≤ 4096 }
     ensures { out.new ≡ xors out.old
         (rows_joined 4 start (length out.old) seeds.now) }
 {
@@ -49,53 +51,34 @@ fn xor_four(seeds: &[u8], start: usize, made: &mut [u8], out: &mut [u8])
     }
 }
 
-// XORs the rows of the seeds from byte `start` on into `out` by fours, where fewer than four blocks hold what is
-// wanted of a row, and answers how many seeds it took.
-fn xor_fours(seeds: &[u8], start: usize, out: &mut [u8]) -> usize
-    requires { start + length out.old ≤ 4096 }
-    ensures { (32 * result ≤ length seeds.now)
-        × (out.new ≡ xors out.old
-        (rows_joined result start (length out.old) seeds.now)) }
-{
-    let mut taken: usize = 0;
-    if THREE_BLOCKS_BYTES < start % BLOCK_BYTES + out.len() {
-        return taken;
-    }
-    let count = seeds.len() / SEED_BYTES;
-    let mut made = [0u8; 256];
-    while 4 <= count - taken {
-        let from = SEED_BYTES * taken;
-        let end = from + 4 * SEED_BYTES;
-        xor_four(&seeds[from..end], start, &mut made, out);
-        taken += 4;
-    }
-    taken
-}
-
 // XORs the rows of the seeds from byte `start` on into `out` one by one.
 fn xor_each(seeds: &[u8], start: usize, out: &mut [u8])
     requires { start + length out.old ≤ 4096 }
     ensures { out.new ≡ xors out.old
         (rows_joined (length seeds.now / 32) start (length out.old) seeds.now) }
 {
-    let count = seeds.len() / SEED_BYTES;
-    let mut seed: usize = 0;
-    while seed < count {
-        let from = SEED_BYTES * seed;
-        let end = from + SEED_BYTES;
-        xor_row(&seeds[from..end], start, out);
-        seed += 1;
+    let (seeds, _) = seeds.as_chunks::<SEED_BYTES>();
+    for seed in seeds {
+        xor_row(seed, start, out);
     }
 }
 
-// XORs into `out` the rows of all seeds, from byte `start` on as far as the output goes. Bytes behind the last whole
-// seed count for nothing.
+// `start + length out.old ≤ 4096` is a fact of two numbers that come apart in each walk: a struct of both would be made anew in each turn.
+// XORs into `out` the rows of all seeds, from byte `start` on as far as the output goes: by fours, where fewer than four
+// blocks hold what is wanted of a row, and one by one. Bytes behind the last whole seed count for nothing.
 pub fn xor_rows(seeds: &[u8], start: usize, out: &mut [u8])
     requires { start + length out.old ≤ 4096 }
     ensures { out.new ≡ xors out.old
         (rows_joined (length seeds.now / 32) start (length out.old) seeds.now) }
 {
-    let taken = xor_fours(seeds, start, out);
-    let from = SEED_BYTES * taken;
-    xor_each(&seeds[from..], start, out);
+    if THREE_BLOCKS_BYTES < start % BLOCK_BYTES + out.len() {
+        xor_each(seeds, start, out);
+        return;
+    }
+    let (fours, rest) = seeds.as_chunks::<FOUR_SEEDS_BYTES>();
+    let mut made = [0u8; 256];
+    for four in fours {
+        xor_four(four, start, &mut made, out);
+    }
+    xor_each(rest, start, out);
 }

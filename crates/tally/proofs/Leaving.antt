@@ -2,7 +2,7 @@
 use mathlib.Core.Path.{◌≡◌, sym, ap, ◌∙◌}
 use mathlib.Core.Bool.{true, cond}
 use mathlib.Core.List.{List}
-use Prim.Native.Nat.{ℕ, suc, ◌+◌, ◌*◌, ◌≤◌, ◌<◌}
+use Prim.Native.Nat.{ℕ, suc, ◌*◌, ◌≤◌, ◌<◌}
 use native.Mathlib.Nat.{mul-le-mul_right}
 use native.Mathlib.Omega.{arith}
 use lib.Dec.{leb, ltb}
@@ -14,7 +14,7 @@ use Rattle.writer.specs.Written.{in_front}
 use Rattle.keys.specs.Keys.{or_else, key_refusal, head_in, table}
 use Rattle.keys.proofs.Accepted.{neither, last_passed}
 use Rattle.page.specs.Page.{entry_at}
-use Rattle.call_answers.specs.Answers.{key_rule, joined_shares}
+use Rattle.call_answers.specs.Answers.{key_rule}
 use Rattle.call_answers.proofs.OwnTable.{own_table_word}
 use Rattle.call_answers.proofs.Putting.{answer_is, put, take_front, room_there, square_there}
 use Rattle.call_answers.proofs.Sharing.{length-joined}

@@ -5,10 +5,10 @@ use mathlib.Core.List.{List, [], ◌∷◌, ◌++◌, append_assoc}
 use Prim.Native.Nat.{ℕ}
 use borrow.Author.Tests.{ne_eqb, eqb-true, eqb-false}
 use lib.Dec.{eqb}
-use Rattle.xor.specs.Xor.{xors, zeros}
+use Rattle.xor.specs.Xor.{xors}
 use Rattle.xor.proofs.Laws.{Word, word_zeros, word_xors, xors_comm, xors_left_comm, xors_cancel}
 use Rattle.keys.specs.Keys.{table}
-use Rattle.call_answers.specs.Answers.{key_rule, PutSays}
+use Rattle.call_answers.specs.Answers.{key_rule}
 use Rattle.call_answers.proofs.Putting.{untouched}
 use Rattle.tally.specs.Tallies.{tally_long, entries, MakeSays, AddSays}
 use Rattle.tally.specs.Runs.{Call, Called, Run, with_call, added, Tallied, tables_of, TallyHolds, InSomeOrder, AnyOrder, TwiceIsNone, answer_of, answered, RefusedInBetween}

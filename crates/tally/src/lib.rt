@@ -4,16 +4,17 @@
 #![tactic(auto)]
 
 ghost use Rattle.std.specs.Prelude.{◌≡◌};
-ghost use Rattle.grid.specs.Code.{board_of};
+ghost use Rattle.refusal.specs.Refusing.{answer_number};
+ghost use Rattle.key_header.specs.Answers.{header_board};
 ghost use Rattle.tally.specs.Runs.{TallyHolds, AnyOrder, TwiceIsNone, RefusedInBetween};
-ghost use Rattle.tally.specs.Tallies.{tally_refusal, takes};
+ghost use Rattle.tally.specs.Tallies.{tally_of, tally_long, tally_refusal, takes};
 
-use call_answers::refusals::{ACCEPTED, REFUSED_PLAYER, REFUSED_ROOM};
 use call_answers::sizes_refusal;
 use key_header::Header;
+use refusal::Refusal;
 
 // p, player, N and w: players, whose tally it is, positions, bytes of a value.
-#[derive(Clone, Copy)]
+#[derive(Clone, Copy, Debug, PartialEq, Eq)]
 pub struct Tally {
     pub players: u32,
     pub player: u32,
@@ -22,42 +23,53 @@ pub struct Tally {
 }
 
 impl Tally {
-    // 1, 2, 4, 11, 9: the first that fits its numbers and the room that is lent for its table, or 0.
-    pub fn refusal(self, room: usize) -> u32
-        ensures { result ≡ tally_refusal self room }
+    // A constructor: C has the four numbers one by one.
+    // The tally of four numbers, as a caller gives them.
+    pub fn new(players: u32, player: u32, positions: u32, value_bytes: u32) -> Tally
+        ensures { result ≡ tally_of players player positions value_bytes }
     {
-        let players = self.players;
-        let player = self.player;
-        let positions = self.positions;
-        let value_bytes = self.value_bytes;
-        let refusal = sizes_refusal(players, positions, value_bytes);
-        if refusal != ACCEPTED {
-            return refusal;
+        Tally {
+            players,
+            player,
+            positions,
+            value_bytes,
         }
-        if players <= player {
-            return REFUSED_PLAYER;
+    }
+
+    // Bytes of its table: an entry for each position.
+    #[tactic(auto, unfolding(crate::specs::Tallies::tally_long))]
+    pub fn table_length(self) -> usize
+        ensures { result ≡ tally_long self }
+    {
+        self.positions as usize * self.value_bytes as usize
+    }
+
+    // 1, 2, 4, 11, 9: the first that fits its numbers and the room that is lent for its table.
+    #[tactic(auto, unfolding(crate::specs::Tallies::tally_refusal, crate::specs::Tallies::tally_long, keys::specs::Keys::or_else))]
+    pub fn refusal(self, room: usize) -> Result<(), Refusal>
+        ensures { answer_number result ≡ tally_refusal self room }
+    {
+        sizes_refusal(self.players, self.positions, self.value_bytes)?;
+        if self.players <= self.player {
+            return Err(Refusal::Player);
         }
-        if room < (positions * value_bytes) as usize {
-            return REFUSED_ROOM;
+        if room < self.table_length() {
+            return Err(Refusal::Room);
         }
-        ACCEPTED
+        Ok(())
     }
 
     // Whether a key of this header is one of the tally's: its width is its own.
+    #[tactic(auto, unfolding(crate::specs::Tallies::takes, grid::specs::Grid::board))]
     pub fn takes(self, header: Header) -> bool
-        ensures { result ≡ takes self (board_of «header».board) «header».player }
+        ensures { result ≡ takes self (header_board «header») «header».player }
     {
-        let board = header.board;
-        if board.players != self.players {
-            return false;
-        }
-        if header.player != self.player {
-            return false;
-        }
-        if board.positions != self.positions {
-            return false;
-        }
-        board.value_bytes == self.value_bytes
+        Tally::new(
+            header.players,
+            header.player,
+            header.positions,
+            header.value_bytes,
+        ) == self
     }
 }
 

@@ -3,86 +3,77 @@
 // each square. Every call is given the tally's four numbers and lent its table. Assumes nothing.
 #![tactic(auto)]
 
+ghost use Rattle.refusal.specs.Refusing.{answer_number};
 ghost use Rattle.tally.specs.Tallies.{MakeSays, AddSays, LookUpSays, TotalSays};
 
-use call_answers::refusals::{ACCEPTED, REFUSED_POSITION, REFUSED_ROOM, REFUSED_TALLY};
 use join_shares_call::joined;
-use key_check::check::check_key;
-use key_header::KeyCheck;
+use key_check::body::check_body;
+use key_header::Header;
 use open_key::add_table;
-use reader::part_from;
+use refusal::Refusal;
 pub use tally::Tally;
-use writer::{clear, put};
+use writer::put;
 
 // MAKE: 1, 2, 4, 11, 9; makes every entry zero.
-pub fn tally_make(tally: Tally, table: &mut [u8]) -> u32
-    ensures { MakeSays tally result table.old table.new }
+pub fn tally_make(tally: Tally, table: &mut [u8]) -> Result<(), Refusal>
+    ensures { MakeSays tally (answer_number result) table.old table.new }
 {
-    let refusal = tally.refusal(table.len());
-    if refusal != ACCEPTED {
-        return refusal;
-    }
-    let long = (tally.positions * tally.value_bytes) as usize;
-    clear(&mut table[..long]);
-    ACCEPTED
+    tally.refusal(table.len())?;
+    table[..tally.table_length()].fill(0);
+    Ok(())
 }
 
 // ADD: 1, 2, 4, 11, 9, Check key's numbers, 23; XORs the key's full table into the lent one, grid row by grid row.
-pub fn tally_add(tally: Tally, key: &[u8], table: &mut [u8]) -> u32
-    ensures { AddSays tally key.now result table.old table.new }
+pub fn tally_add(tally: Tally, key: &[u8], table: &mut [u8]) -> Result<(), Refusal>
+    ensures { AddSays tally key.now (answer_number result) table.old table.new }
 {
-    let refusal = tally.refusal(table.len());
-    if refusal != ACCEPTED {
-        return refusal;
+    tally.refusal(table.len())?;
+    let (player, body) = check_body(key)?;
+    if !tally.takes(Header::of(body.board, player)) {
+        return Err(Refusal::Tally);
     }
-    let heading = match check_key(key) {
-        KeyCheck::Refused(number) => return number,
-        KeyCheck::Accepted(heading) => heading,
-    };
-    let header = heading.header;
-    if !tally.takes(header) {
-        return REFUSED_TALLY;
-    }
-    let board = header.board;
-    let long = (tally.positions * tally.value_bytes) as usize;
-    add_table(part_from(key, heading.end), board, &mut table[..long]);
-    ACCEPTED
+    add_table(&body, &mut table[..tally.table_length()]);
+    Ok(())
 }
 
+// Position and output one by one: the operation's arguments, as C and the papers have them.
 // LOOK UP: 1, 2, 4, 11, 9, 14, 9; writes the entry of one position.
-pub fn tally_look_up(tally: Tally, table: &[u8], position: u32, output: &mut [u8]) -> u32
-    ensures { LookUpSays tally table.now position result output.old output.new }
+pub fn tally_look_up(
+    tally: Tally,
+    table: &[u8],
+    position: u32,
+    output: &mut [u8],
+) -> Result<(), Refusal>
+    ensures { LookUpSays tally table.now position (answer_number result) output.old output.new }
 {
-    let refusal = tally.refusal(table.len());
-    if refusal != ACCEPTED {
-        return refusal;
-    }
+    tally.refusal(table.len())?;
     if tally.positions <= position {
-        return REFUSED_POSITION;
+        return Err(Refusal::Position);
     }
     let entry = tally.value_bytes as usize;
     if output.len() < entry {
-        return REFUSED_ROOM;
+        return Err(Refusal::Room);
     }
     let at = position as usize * entry;
     put(output, 0, &table[at..at + entry]);
-    ACCEPTED
+    Ok(())
 }
 
+// No twin of Look up: there 14 is asked between the tally's refusals and 9. Table and output go as two: the one is lent to be read.
 // TOTAL: 1, 2, 4, 11, 9, 9; writes the XOR of all entries.
-pub fn tally_total(tally: Tally, table: &[u8], output: &mut [u8]) -> u32
-    ensures { TotalSays tally table.now result output.old output.new }
+pub fn tally_total(tally: Tally, table: &[u8], output: &mut [u8]) -> Result<(), Refusal>
+    ensures { TotalSays tally table.now (answer_number result) output.old output.new }
 {
-    let refusal = tally.refusal(table.len());
-    if refusal != ACCEPTED {
-        return refusal;
-    }
+    tally.refusal(table.len())?;
     let entry = tally.value_bytes as usize;
     if output.len() < entry {
-        return REFUSED_ROOM;
+        return Err(Refusal::Room);
     }
     let entries = tally.positions as usize;
-    let long = entries * entry;
-    joined(entries, &table[..long], &mut output[..entry]);
-    ACCEPTED
+    joined(
+        entries,
+        &table[..tally.table_length()],
+        &mut output[..entry],
+    );
+    Ok(())
 }

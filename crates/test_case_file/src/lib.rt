@@ -2,96 +2,82 @@
 // the bytes end. So nothing has to be known of a file before it is read, and a damaged one gives cases that differ. Assumes nothing.
 #![tactic(auto)]
 
-ghost use Rattle.std.specs.Prelude.{◌≡◌, ◌+◌, ◌*◌, ◌≤◌, take, drop};
-ghost use Rattle.test_case_file.specs.File.{number_in, number_at};
+ghost use Rattle.std.specs.Prelude.{◌≡◌, ◌+◌, ◌<◌, sum, take, drop};
+ghost use Rattle.test_case_file.specs.File.{number_in, number_at, four_numbers_at, five_numbers_at, case_head, inputs_from, behind_inputs};
 
 use reader::{byte, part_from};
 
-// The file's first part, and what stands where in it behind a name of 8 bytes.
-pub const FILE_HEAD_BYTES: usize = 24;
+// What the file begins with, and where the number of its cases and its length stand behind that.
+const NAME: &[u8] = b"NGCASES1";
 
+// Four offsets of the file's own head, each read once.
 const FILE_CASES: usize = 8;
 
 const FILE_LENGTH: usize = 20;
 
-// A case's first part, and what stands where in it.
-pub const HEAD_BYTES: usize = 68;
+// The bytes of the file's first part, and of a case's.
+const FILE_HEAD_BYTES: usize = 24;
 
-pub const OPERATION: usize = 0;
+const HEAD_BYTES: usize = 68;
 
-pub const REFUSAL: usize = 1;
+// The bytes as they stand in the file (reference/FORMAT.md): a refusal is a number there, 0 for none, and `kept` is no flag of other fields.
+// A case's first part: the numbers that go into the call and those that come out, and how long its inputs, the lent output and the answer are.
+#[derive(Clone, Copy)]
+pub struct Head {
+    pub operation: u8,
+    pub refusal: u8,
+    pub fill: u8,
+    pub kept: bool,
+    pub numbers: [u32; 5],
+    pub results: [u32; 5],
+    pub inputs: [u32; 4],
+    pub lent: u32,
+    pub answer: u32,
+}
 
-pub const FILL: usize = 2;
+// A case: its head, its inputs one behind another, which may be those of a case before it, and the answer's bytes.
+#[derive(Clone, Copy)]
+pub struct Case<'a> {
+    pub head: Head,
+    pub inputs: &'a [u8],
+    pub answer: &'a [u8],
+}
 
-const KEPT: usize = 3;
+// The cases of a file, read one behind another: the bytes behind the last one, and those from the last inputs on that were a case's own.
+#[derive(Drop)]
+pub struct Cases<'a> {
+    pub rest: &'a [u8],
+    pub inputs: &'a [u8],
+}
 
-pub const NUMBER_1: usize = 4;
-
-pub const NUMBER_2: usize = 8;
-
-pub const NUMBER_3: usize = 12;
-
-pub const NUMBER_4: usize = 16;
-
-pub const NUMBER_5: usize = 20;
-
-pub const RESULT_1: usize = 24;
-
-pub const RESULT_2: usize = 28;
-
-pub const RESULT_3: usize = 32;
-
-pub const RESULT_4: usize = 36;
-
-pub const RESULT_5: usize = 40;
-
-pub const INPUT_1: usize = 44;
-
-pub const INPUT_2: usize = 48;
-
-pub const INPUT_3: usize = 52;
-
-pub const INPUT_4: usize = 56;
-
-pub const LENT: usize = 60;
-
-const ANSWER: usize = 64;
+// The first bytes, so many or all where there are fewer, and those behind them.
+pub fn cut(bytes: &[u8], count: usize) -> (&[u8], &[u8])
+    ensures { (result.0.now ≡ take count bytes.now) × (result.1.now ≡ drop count bytes.now) }
+{
+    if count < bytes.len() {
+        bytes.split_at(count)
+    } else {
+        (bytes, &[])
+    }
+}
 
 // The first bytes, or all where there are fewer.
 pub fn front(bytes: &[u8], count: usize) -> &[u8]
     ensures { result.now ≡ take count bytes.now }
 {
-    let end = bytes.len();
-    if count <= end {
-        return &bytes[..count];
-    }
-    &bytes[..end]
-}
-
-// So many bytes from a place on, fewer where the bytes end.
-pub fn part(bytes: &[u8], from: usize, count: usize) -> &[u8]
-    ensures { result.now ≡ take count (drop from bytes.now) }
-{
-    front(part_from(bytes, from), count)
-}
-
-// Four bytes as a number, the lowest first.
-fn four(first: u8, second: u8, third: u8, fourth: u8) -> u32
-    ensures { result ≡ first + 256 * second + 65536 * third + 16777216 * fourth }
-{
-    first as u32 + 256 * second as u32 + 65536 * third as u32 + 16777216 * fourth as u32
+    cut(bytes, count).0
 }
 
 // The number that bytes begin with.
 fn number(bytes: &[u8]) -> u32
     ensures { result ≡ number_in bytes.now }
 {
-    four(
+    u32::from_le_bytes([
         byte(bytes, 0),
         byte(bytes, 1),
         byte(bytes, 2),
         byte(bytes, 3),
-    )
+    ])
 }
 
 // The number at a place.
@@ -101,59 +87,101 @@ pub fn number_at(bytes: &[u8], at: usize) -> u32
     number(part_from(bytes, at))
 }
 
-// A length at a place.
-pub fn length_at(bytes: &[u8], at: usize) -> usize
-    ensures { (result ≤ 4294967295) × (result ≡ number_at bytes.now at) }
+// Four numbers from a place on.
+fn four_numbers_at(bytes: &[u8], at: usize) -> [u32; 4]
+    requires { at < 68 }
+    ensures { result ≡ four_numbers_at bytes.now at }
 {
-    number_at(bytes, at) as usize
+    [
+        number_at(bytes, at),
+        number_at(bytes, at + 4),
+        number_at(bytes, at + 8),
+        number_at(bytes, at + 12),
+    ]
 }
 
-// How many cases the file says it has; 0 where it is no file of cases, is not whole, or has no room for so many.
-pub fn count(file: &[u8]) -> u32 {
-    if !check::same(front(file, 8), b"NGCASES1") {
-        return 0;
-    }
-    if length_at(file, FILE_LENGTH) != file.len() {
-        return 0;
-    }
+// Five of them.
+fn five_numbers_at(bytes: &[u8], at: usize) -> [u32; 5]
+    requires { at < 64 }
+    ensures { result ≡ five_numbers_at bytes.now at }
+{
+    let [second, third, fourth, fifth] = four_numbers_at(bytes, at + 4);
+    [number_at(bytes, at), second, third, fourth, fifth]
+}
+
+// How many cases the file says it has; none where it is no file of cases, is not whole, or has no room for so many.
+pub fn count(file: &[u8]) -> Option<u32> {
+    let whole = file.starts_with(NAME) && number_at(file, FILE_LENGTH) as usize == file.len();
     let cases = number_at(file, FILE_CASES);
-    if file.len() / HEAD_BYTES < cases as usize {
-        return 0;
-    }
-    cases
-}
-
-// Bytes of a case's inputs together.
-pub fn inputs_length(head: &[u8]) -> usize
-    ensures { result ≡ number_at head.now 44 + number_at head.now 48 + number_at head.now 52 + number_at head.now 56 }
-{
-    length_at(head, INPUT_1)
-        + length_at(head, INPUT_2)
-        + length_at(head, INPUT_3)
-        + length_at(head, INPUT_4)
-}
-
-pub fn answer_length(head: &[u8]) -> usize
-    ensures { result ≡ number_at head.now 64 }
-{
-    length_at(head, ANSWER)
-}
-
-// Whether the inputs are those of the case before, and do not follow.
-pub fn inputs_kept(head: &[u8]) -> bool {
-    byte(head, KEPT) == 1
-}
-
-// The place so many bytes further on, and the end where that is past it.
-pub fn further(bytes: &[u8], from: usize, count: usize) -> usize {
-    let end = bytes.len();
-    if end <= from {
-        return end;
-    }
-    if count <= end - from {
-        from + count
+    if whole && cases as usize <= file.len() / HEAD_BYTES {
+        Some(cases)
     } else {
-        end
+        None
+    }
+}
+
+impl Head {
+    // What the bytes of a head say.
+    pub fn read(bytes: &[u8]) -> Head
+        ensures { result ≡ case_head bytes.now }
+    {
+        Head {
+            operation: byte(bytes, 0),
+            refusal: byte(bytes, 1),
+            fill: byte(bytes, 2),
+            kept: byte(bytes, 3) == 1,
+            numbers: five_numbers_at(bytes, 4),
+            results: five_numbers_at(bytes, 24),
+            inputs: four_numbers_at(bytes, 44),
+            lent: number_at(bytes, 60),
+            answer: number_at(bytes, 64),
+        }
+    }
+
+    // Bytes of its inputs together.
+    pub fn inputs_length(&self) -> usize
+        ensures { result ≡ sum self.now.inputs }
+    {
+        let [first, second, third, fourth] = self.inputs;
+        first as usize + second as usize + third as usize + fourth as usize
+    }
+}
+
+impl<'a> Cases<'a> {
+    // Those of a file, from its first on.
+    pub fn of(file: &'a [u8]) -> Cases<'a>
+        ensures { (result.rest.now ≡ drop 24 file.now) × (result.inputs.now ≡ drop 24 file.now) }
+    {
+        let cases = part_from(file, FILE_HEAD_BYTES);
+        Cases {
+            rest: cases,
+            inputs: cases,
+        }
+    }
+
+    // The next one. Behind the last all bytes are 0, and all parts are empty.
+    pub fn following(&mut self) -> Case<'a>
+        ensures head { result.head ≡ case_head (take 68 self.old.rest.now) }
+        ensures inputs_are { self.new.inputs.now ≡ inputs_from result.head self.old.inputs.now self.old.rest.now }
+        ensures inputs { result.inputs.now ≡ take (sum result.head.inputs) self.new.inputs.now }
+        ensures answer { result.answer.now ≡ take result.head.answer (behind_inputs result.head self.old.rest.now) }
+        ensures rest { self.new.rest.now ≡ drop result.head.answer (behind_inputs result.head self.old.rest.now) }
+    {
+        let (head, body) = cut(self.rest, HEAD_BYTES);
+        let head = Head::read(head);
+        let length = head.inputs_length();
+        let mut behind = body;
+        if !head.kept {
+            self.inputs = body;
+            behind = part_from(body, length);
+        }
+        let (answer, rest) = cut(behind, head.answer as usize);
+        self.rest = rest;
+        Case {
+            head,
+            inputs: front(self.inputs, length),
+            answer,
+        }
     }
 }
 
@@ -161,11 +189,9 @@ pub fn further(bytes: &[u8], from: usize, count: usize) -> usize {
 pub fn checksum(bytes: &[u8]) -> u32 {
     let mut sum: u32 = 1;
     let mut sums: u32 = 0;
-    let mut i: usize = 0;
-    while i < bytes.len() {
-        sum = (sum + byte(bytes, i) as u32) % 65521;
+    for byte in bytes {
+        sum = (sum + u32::from(*byte)) % 65521;
         sums = (sums + sum) % 65521;
-        i += 1;
     }
     sums * 65536 + sum
 }

@@ -1,207 +1,155 @@
 // The calls, one function for each operation: the numbers are read from a case's head, the inputs are parts of its inputs, and `lent` is the
 // lent output. Assumes nothing.
-ghost use Rattle.std.specs.Prelude.{◌≡◌, true, get_or};
+ghost use Rattle.std.specs.Prelude.{◌≡◌, true};
 ghost use Rattle.test_answers.specs.Answers.{Left};
 
-use crate::operations::{
-    CHECK_KEY, CHOOSE_WIDTH, DEAL, DEALING_PROGRAM, DRAW_CARD, EXPAND, HELD_SEED, JOIN_KEYS,
-    JOIN_SHARES, JOINING_PROGRAM, KEY_LENGTH, OPEN_ALL, OPEN_ONE, SENSOR_POSITION, WRITE_PAGE,
-};
-use nosingginger::KeyCheck;
-use reader::byte;
-use test_answers::{Answered, alone, answer, deal_answer, fill, left, same_numbers};
-use test_case_file::{
-    FILL, INPUT_1, INPUT_2, INPUT_3, INPUT_4, LENT, NUMBER_1, NUMBER_2, NUMBER_3, NUMBER_4,
-    NUMBER_5, OPERATION, RESULT_1, length_at, number_at, part,
-};
+use crate::operations::Operation;
+use key_header::Header;
+use test_answers::{Answered, left, same_numbers};
+use test_case_file::{Case, cut, front};
 
-// A number that no operation answers.
-const NO_OPERATION: u32 = 256;
-
-fn key_length(head: &[u8]) -> Answered {
-    answer(nosingginger::key_length(
-        number_at(head, NUMBER_1),
-        number_at(head, NUMBER_2),
-        number_at(head, NUMBER_3),
-        number_at(head, NUMBER_4),
-    ))
+fn key_length(case: Case) -> Answered {
+    let [players, positions, width, value_bytes, _] = case.head.numbers;
+    nosingginger::key_length(players, positions, width, value_bytes).into()
 }
 
-fn deal(head: &[u8], inputs: &[u8], lent: &mut [u8]) -> Answered {
-    let value = length_at(head, INPUT_1);
-    let arrays = length_at(head, INPUT_2);
-    let seeds = length_at(head, INPUT_3);
-    let words = length_at(head, INPUT_4);
-    let got = nosingginger::deal(
-        number_at(head, NUMBER_1),
-        number_at(head, NUMBER_2),
-        number_at(head, NUMBER_3),
-        number_at(head, NUMBER_4),
-        number_at(head, NUMBER_5),
-        part(inputs, 0, value),
-        part(inputs, value, arrays),
-        part(inputs, value + arrays, seeds),
-        part(inputs, value + arrays + seeds, words),
+// Case and output go as two, here and below: the output is one buffer for all cases.
+fn deal(case: Case, lent: &mut [u8]) -> Answered {
+    let [players, positions, width, value_bytes, point] = case.head.numbers;
+    let [value_length, arrays_length, seeds_length, words_length] = case.head.inputs;
+    let (value, rest) = cut(case.inputs, value_length as usize);
+    let (arrays, rest) = cut(rest, arrays_length as usize);
+    let (seeds, rest) = cut(rest, seeds_length as usize);
+    let words = front(rest, words_length as usize);
+    nosingginger::deal(
+        players,
+        positions,
+        width,
+        value_bytes,
+        point,
+        value,
+        arrays,
+        seeds,
+        words,
         lent,
-    );
-    deal_answer(got)
+    )
+    .into()
 }
 
-fn check_key(inputs: &[u8]) -> Answered {
-    let heading = match nosingginger::check_key(inputs) {
-        KeyCheck::Refused(refusal) => return alone(refusal),
-        KeyCheck::Accepted(heading) => heading,
-    };
-    let header = heading.header;
-    let board = header.board;
-    Answered {
-        refusal: 0,
-        first: board.players,
-        second: header.player,
-        third: board.positions,
-        fourth: board.width,
-        fifth: board.value_bytes,
-    }
+fn check_key(case: Case) -> Answered {
+    nosingginger::check_key(case.inputs)
+        .map(|read| Header::of(read.board, read.player).numbers())
+        .into()
 }
 
-fn open_one(head: &[u8], inputs: &[u8], lent: &mut [u8]) -> Answered {
-    alone(nosingginger::open_one(inputs, number_at(head, NUMBER_1), lent))
+fn open_one(case: Case, lent: &mut [u8]) -> Answered {
+    nosingginger::open_one(case.inputs, case.head.numbers[0], lent).into()
 }
 
-fn open_all(inputs: &[u8], lent: &mut [u8]) -> Answered {
-    alone(nosingginger::open_all(inputs, lent))
+fn open_all(case: Case, lent: &mut [u8]) -> Answered {
+    nosingginger::open_all(case.inputs, lent).into()
 }
 
-fn draw_card(head: &[u8], inputs: &[u8], lent: &mut [u8]) -> Answered {
-    let key = length_at(head, INPUT_1);
-    let deck = length_at(head, INPUT_2);
-    alone(nosingginger::draw_card(
-        part(inputs, 0, key),
-        part(inputs, key, deck),
-        number_at(head, NUMBER_1),
-        lent,
-    ))
+fn draw_card(case: Case, lent: &mut [u8]) -> Answered {
+    let [key_length, deck_length, _, _] = case.head.inputs;
+    let (key, rest) = cut(case.inputs, key_length as usize);
+    let deck = front(rest, deck_length as usize);
+    nosingginger::draw_card(key, deck, case.head.numbers[0], lent).into()
 }
 
-fn write_page(head: &[u8], inputs: &[u8], lent: &mut [u8]) -> Answered {
-    answer(nosingginger::write_page(
-        number_at(head, NUMBER_1),
-        number_at(head, NUMBER_2),
-        inputs,
-        lent,
-    ))
+fn write_page(case: Case, lent: &mut [u8]) -> Answered {
+    let [positions, value_bytes, _, _, _] = case.head.numbers;
+    nosingginger::write_page(positions, value_bytes, case.inputs, lent).into()
 }
 
-fn join_shares(head: &[u8], inputs: &[u8], lent: &mut [u8]) -> Answered {
-    alone(nosingginger::join_shares(
-        number_at(head, NUMBER_1),
-        number_at(head, NUMBER_2),
-        inputs,
-        lent,
-    ))
+fn join_shares(case: Case, lent: &mut [u8]) -> Answered {
+    let [players, value_bytes, _, _, _] = case.head.numbers;
+    nosingginger::join_shares(players, value_bytes, case.inputs, lent).into()
 }
 
-fn join_keys(inputs: &[u8], lent: &mut [u8]) -> Answered {
-    alone(nosingginger::join_keys(inputs, lent))
+fn join_keys(case: Case, lent: &mut [u8]) -> Answered {
+    nosingginger::join_keys(case.inputs, lent).into()
 }
 
+// Two numbers of the file, which has none of 64 bits.
 // A start has 64 bits: its lower half, then its upper half.
-fn expand(head: &[u8], inputs: &[u8], lent: &mut [u8]) -> Answered {
-    let low = number_at(head, NUMBER_1) as usize;
-    let high = number_at(head, NUMBER_2) as usize;
-    alone(nosingginger::expand_seed(inputs, 4294967296 * high + low, lent))
+fn expand(case: Case, lent: &mut [u8]) -> Answered {
+    let [low, high, _, _, _] = case.head.numbers;
+    let start = 4294967296 * high as usize + low as usize;
+    nosingginger::expand_seed(case.inputs, start, lent).into()
 }
 
-fn choose_width(head: &[u8]) -> Answered {
-    answer(nosingginger::choose_width(
-        number_at(head, NUMBER_1),
-        number_at(head, NUMBER_2),
-        number_at(head, NUMBER_3),
-    ))
+fn choose_width(case: Case) -> Answered {
+    let [players, positions, value_bytes, _, _] = case.head.numbers;
+    nosingginger::choose_width(players, positions, value_bytes).into()
 }
 
-fn sensor_position(head: &[u8]) -> Answered {
-    answer(nosingginger::sensor_position(number_at(head, NUMBER_1)))
-}
-
-// The call of a case whose answer is numbers and what it leaves in the lent output.
-fn called(operation: u8, head: &[u8], inputs: &[u8], lent: &mut [u8]) -> Answered {
-    match operation {
-        KEY_LENGTH => key_length(head),
-        DEAL => deal(head, inputs, lent),
-        CHECK_KEY => check_key(inputs),
-        OPEN_ONE => open_one(head, inputs, lent),
-        OPEN_ALL => open_all(inputs, lent),
-        DRAW_CARD => draw_card(head, inputs, lent),
-        JOIN_SHARES => join_shares(head, inputs, lent),
-        JOIN_KEYS => join_keys(inputs, lent),
-        EXPAND => expand(head, inputs, lent),
-        CHOOSE_WIDTH => choose_width(head),
-        SENSOR_POSITION => sensor_position(head),
-        WRITE_PAGE => write_page(head, inputs, lent),
-        _ => alone(NO_OPERATION),
-    }
+fn sensor_position(case: Case) -> Answered {
+    nosingginger::sensor_position(case.head.numbers[0]).into()
 }
 
 // The call on a lent output that is full of the fill.
-fn on_lent(operation: u8, head: &[u8], inputs: &[u8], answer: &[u8], lent: &mut [u8]) -> bool
-    ensures { result ≡ true → Left answer.now (get_or head.now 2 0) lent.new }
+fn on_lent<F: FnOnce(&mut [u8]) -> Answered>(case: Case, lent: &mut [u8], call: F) -> bool
+    requires { F.IsAlwaysCallable call }
+    ensures { result ≡ true → Left case.entry.answer.now case.entry.head.fill lent.new }
 {
-    let filler = byte(head, FILL);
-    fill(lent, filler);
-    let got = called(operation, head, inputs, lent);
-    if !same_numbers(head, got) {
-        return false;
-    }
-    left(lent, answer, filler)
+    let filler = case.head.fill;
+    lent.fill(filler);
+    let got = call(lent);
+    same_numbers(&case.head, got) && left(lent, case.answer, filler)
 }
 
 // The call on as much of the output as the case lends.
-fn on_output(operation: u8, head: &[u8], inputs: &[u8], answer: &[u8], output: &mut [u8]) -> bool {
-    let lent = length_at(head, LENT);
-    if output.len() < lent {
-        return false;
-    }
-    on_lent(operation, head, inputs, answer, &mut output[..lent])
+fn on_output<F: FnOnce(&mut [u8]) -> Answered>(case: Case, output: &mut [u8], call: F) -> bool
+    requires { F.IsAlwaysCallable call }
+{
+    let lent = case.head.lent as usize;
+    lent <= output.len() && on_lent(case, &mut output[..lent], call)
 }
 
+// The file has 0 where no seed is held.
 // Held seed answers a part of the key and not an output: where it begins, and its bytes.
-fn held_seed(head: &[u8], inputs: &[u8], answer: &[u8]) -> bool {
-    let grid_row = number_at(head, NUMBER_1);
-    let column = number_at(head, NUMBER_2);
-    let place = key_check::held::held_seed_place(inputs, grid_row, column);
-    if place != length_at(head, RESULT_1) {
-        return false;
-    }
-    check::same(nosingginger::held_seed(inputs, grid_row, column), answer)
+fn held_seed(case: Case) -> bool {
+    let [grid_row, column, _, _, _] = case.head.numbers;
+    let place = key_check::held::held_seed_place(case.inputs, grid_row, column);
+    place.unwrap_or(0) == case.head.results[0] as usize
+        && nosingginger::held_seed(case.inputs, grid_row, column) == case.answer
 }
 
 // The dealing program answers bytes alone, in an output of its own.
-fn dealing_program(inputs: &[u8], answer: &[u8]) -> bool {
+fn dealing_program(case: Case) -> bool {
     let mut output = io::large_buffer();
-    let written = program_deal::dealing_program(inputs, &mut output);
-    check::same(&output[..written], answer)
+    let written = program_deal::dealing_program(case.inputs, &mut output);
+    &output[..written] == case.answer
 }
 
+// No twin of dealing_program: of six lines two are the same.
 // The joining program too; it is lent a table beside its output.
-fn joining_program(inputs: &[u8], answer: &[u8]) -> bool {
+fn joining_program(case: Case) -> bool {
     let mut table = io::large_buffer();
     let mut output = program_output::text_buffer();
-    let written = program_join::joining_program(inputs, &mut table, &mut output);
-    check::same(&output[..written], answer)
+    let written = program_join::joining_program(case.inputs, &mut table, &mut output);
+    &output[..written] == case.answer
 }
 
-// Whether a case's call answers and leaves what the case says.
-pub fn equal(head: &[u8], inputs: &[u8], answer: &[u8], output: &mut [u8]) -> bool {
-    let operation = byte(head, OPERATION);
-    if operation == HELD_SEED {
-        return held_seed(head, inputs, answer);
+// An arm for each operation: the calls differ in what they take, and a table would be of closures handed out.
+// Whether a case's call answers and leaves what the case says. `output` is scratch, where most calls have what they are lent.
+pub fn equal(operation: Operation, case: Case, output: &mut [u8]) -> bool {
+    match operation {
+        Operation::KeyLength => on_output(case, output, |_| key_length(case)),
+        Operation::Deal => on_output(case, output, |lent| deal(case, lent)),
+        Operation::CheckKey => on_output(case, output, |_| check_key(case)),
+        Operation::OpenOne => on_output(case, output, |lent| open_one(case, lent)),
+        Operation::OpenAll => on_output(case, output, |lent| open_all(case, lent)),
+        Operation::JoinShares => on_output(case, output, |lent| join_shares(case, lent)),
+        Operation::JoinKeys => on_output(case, output, |lent| join_keys(case, lent)),
+        Operation::HeldSeed => held_seed(case),
+        Operation::Expand => on_output(case, output, |lent| expand(case, lent)),
+        Operation::ChooseWidth => on_output(case, output, |_| choose_width(case)),
+        Operation::SensorPosition => on_output(case, output, |_| sensor_position(case)),
+        Operation::DealingProgram => dealing_program(case),
+        Operation::JoiningProgram => joining_program(case),
+        Operation::DrawCard => on_output(case, output, |lent| draw_card(case, lent)),
+        Operation::WritePage => on_output(case, output, |lent| write_page(case, lent)),
     }
-    if operation == DEALING_PROGRAM {
-        return dealing_program(inputs, answer);
-    }
-    if operation == JOINING_PROGRAM {
-        return joining_program(inputs, answer);
-    }
-    on_output(operation, head, inputs, answer, output)
 }

@@ -9,99 +9,44 @@ mod calls;
 mod cases;
 mod operations;
 
-ghost use Rattle.std.specs.Prelude.{◌≡◌, length};
-
+use cases::Tally;
 use full_read::{opened, read_full};
-use operations::{
-    CHECK_KEY, CHOOSE_WIDTH, DEAL, DEALING_PROGRAM, DRAW_CARD, EXPAND, HELD_SEED, JOIN_KEYS,
-    JOIN_SHARES, JOINING_PROGRAM, KEY_LENGTH, OPEN_ALL, OPEN_ONE, SENSOR_POSITION, WRITE_PAGE,
-};
+use operations::LINES;
+use program_output::zeros;
 
-fn text(rt: &impl Print, words: &[u8]) -> std::io::Result<()> {
-    rt.write_all(words)
-}
+// The bytes of the file and of the longest output of a case, and some more.
+const MOST_FILE: usize = 2600000;
 
-fn number(rt: &impl Print, value: u32) -> std::io::Result<()> {
-    rt.print(value)
-}
+const MOST_OUTPUT: usize = 70000;
 
-// As many zeros as the longest output of a case takes, and some more. The `ensures` gives only the length, as in `io::buffer`.
-fn output_buffer() -> [u8; 70000]
-    ensures { 70000 ≡ length result }
-{
-    [0; 70000]
-}
-
-// As many zeros as the file takes, and some more.
-fn file_buffer() -> [u8; 2600000]
-    ensures { 2600000 ≡ length result }
-{
-    [0; 2600000]
-}
-
-// One operation's line, behind those of its cases that differ.
-fn line(rt: &impl Print, name: &[u8], operation: u8, file: &[u8]) -> std::io::Result<()> {
-    let mut output = output_buffer();
-    let tally = cases::compare(rt, file, operation, &mut output)?;
-    text(rt, name)?;
-    text(rt, b": ")?;
-    number(rt, tally.cases)?;
-    text(rt, b" cases, ")?;
-    number(rt, tally.refused)?;
-    text(rt, b" refused, ")?;
-    number(rt, tally.equal)?;
-    text(rt, b" equal\n")
-}
-
+// The line says 0 where the file is none.
 // The file's own line: its length, its checksum (Adler-32 of RFC 1950), and how many cases it says it has.
 fn file_line(rt: &impl Print, file: &[u8]) -> std::io::Result<()> {
-    rt.print(file.len())?;
-    text(rt, b" bytes, checksum ")?;
+    let bytes = file.len();
     let checksum = test_case_file::checksum(file);
-    print!(rt; "{checksum:08x}")?;
-    text(rt, b", ")?;
-    number(rt, test_case_file::count(file))?;
-    text(rt, b" cases\n")
+    let cases = test_case_file::count(file).unwrap_or(0);
+    println!(rt; "{bytes} bytes, checksum {checksum:08x}, {cases} cases")
 }
 
-// Lengths, dealing and checking.
-fn key_lines(rt: &impl Print, file: &[u8]) -> std::io::Result<()> {
-    line(rt, b"key length", KEY_LENGTH, file)?;
-    line(rt, b"deal", DEAL, file)?;
-    line(rt, b"check key", CHECK_KEY, file)
-}
-
-// Opening, drawing and joining.
-fn share_lines(rt: &impl Print, file: &[u8]) -> std::io::Result<()> {
-    line(rt, b"open one", OPEN_ONE, file)?;
-    line(rt, b"open all", OPEN_ALL, file)?;
-    line(rt, b"draw card", DRAW_CARD, file)?;
-    line(rt, b"join shares", JOIN_SHARES, file)?;
-    line(rt, b"join keys", JOIN_KEYS, file)?;
-    line(rt, b"write page", WRITE_PAGE, file)
-}
-
-// The operations on seeds and on numbers alone.
-fn small_lines(rt: &impl Print, file: &[u8]) -> std::io::Result<()> {
-    line(rt, b"held seed", HELD_SEED, file)?;
-    line(rt, b"expand", EXPAND, file)?;
-    line(rt, b"choose width", CHOOSE_WIDTH, file)?;
-    line(rt, b"sensor position", SENSOR_POSITION, file)
-}
-
-// All lines.
+// A line for each operation, behind those of its cases that differ.
 fn lines(rt: &impl Print, file: &[u8]) -> std::io::Result<()> {
-    file_line(rt, file)?;
-    key_lines(rt, file)?;
-    share_lines(rt, file)?;
-    small_lines(rt, file)?;
-    line(rt, b"dealing program", DEALING_PROGRAM, file)?;
-    line(rt, b"joining program", JOINING_PROGRAM, file)
+    let mut output = zeros::<MOST_OUTPUT>();
+    for operation in LINES {
+        let Tally {
+            cases,
+            refused,
+            equal,
+        } = cases::compare(rt, file, operation, &mut output)?;
+        println!(rt; "{operation}: {cases} cases, {refused} refused, {equal} equal")?;
+    }
+    Ok(())
 }
 
+// A buffer with a count beside it: memory is fixed, and nothing is put on a heap.
 fn main(rt: HostRuntime) -> std::io::Result<()> {
     let mut cases = opened(&rt, "cases.bin")?;
-    let mut file = file_buffer();
+    let mut file = zeros::<MOST_FILE>();
     let length = read_full(&mut cases, &mut file)?;
+    file_line(&rt, &file[..length])?;
     lines(&rt, &file[..length])
 }

@@ -9,100 +9,56 @@ ghost use Rattle.std.specs.Prelude.{◌<◌};
 
 use key_check::check::check_key;
 use key_check::held::held_seed_place;
-use key_header::KeyCheck;
+use refusal::Refusal;
 use std::io;
 
-fn text(rt: &impl Print, words: &[u8]) -> io::Result<()> {
-    rt.write_all(words)
-}
+// Bytes of the key.
+const KEY_BYTES: usize = 79;
 
-fn number(rt: &impl Print, value: usize) -> io::Result<()> {
-    rt.print(value)
-}
-
-// The number that refuses a key, or 0.
-fn answer(key: &[u8]) -> u32 {
-    match check_key(key) {
-        KeyCheck::Accepted(_) => 0,
-        KeyCheck::Refused(refusal) => refusal,
-    }
-}
-
-fn answer_with(key: [u8; 79], at: usize, value: u8) -> u32
+// What refuses the key with another byte at a place, or none.
+fn refusal_with(mut key: [u8; KEY_BYTES], at: usize, value: u8) -> Option<Refusal>
     requires { at < 79 }
 {
-    let mut other = key;
-    other[at] = value;
-    answer(&other)
+    key[at] = value;
+    check_key(&key).err()
 }
 
 // " LOW-HIGH answer", behind a comma where it is not the line's first.
-fn print_run(rt: &impl Print, low: usize, high: usize, refusal: u32) -> io::Result<()> {
+fn print_run(rt: &impl Print, low: u8, high: u8, refusal: Option<Refusal>) -> io::Result<()> {
     if 0 < low {
-        text(rt, b",")?;
+        print!(rt; ",")?;
     }
-    text(rt, b" ")?;
-    number(rt, low)?;
+    print!(rt; " {low}")?;
     if low < high {
-        text(rt, b"-")?;
-        number(rt, high)?;
+        print!(rt; "-{high}")?;
     }
-    if refusal == 0 {
-        text(rt, b" accepted")
-    } else {
-        text(rt, b" refused ")?;
-        number(rt, refusal as usize)
+    match refusal {
+        None => print!(rt; " accepted"),
+        Some(refusal) => print!(rt; " refused {}", refusal.number()),
     }
 }
 
-fn begin_line(rt: &impl Print, at: usize) -> io::Result<()> {
-    number(rt, at)?;
-    text(rt, b":")
-}
-
-fn end_line(rt: &impl Print) -> io::Result<()> {
-    text(rt, b"\n")
-}
-
-fn print_place(rt: &impl Print, key: [u8; 79], at: usize) -> io::Result<()>
+fn print_place(rt: &impl Print, key: [u8; KEY_BYTES], at: usize) -> io::Result<()>
     requires { at < 79 }
 {
-    begin_line(rt, at)?;
-    let mut low: usize = 0;
-    let mut run = answer_with(key, at, 0);
-    let mut value: usize = 1;
-    while value < 256 {
-        let next = answer_with(key, at, value as u8);
+    print!(rt; "{at}:")?;
+    let mut low = 0;
+    let mut run = refusal_with(key, at, 0);
+    for value in 1..=u8::MAX {
+        let next = refusal_with(key, at, value);
         if next != run {
             print_run(rt, low, value - 1, run)?;
             low = value;
             run = next;
         }
-        value += 1;
     }
-    print_run(rt, low, 255, run)?;
-    end_line(rt)
-}
-
-fn print_held(rt: &impl Print, key: [u8; 79], grid_row: u32, column: u32) -> io::Result<()> {
-    text(rt, b"grid row ")?;
-    number(rt, grid_row as usize)?;
-    text(rt, b" column ")?;
-    number(rt, column as usize)?;
-    text(rt, b": ")?;
-    number(rt, held_seed_place(&key, grid_row, column))?;
-    text(rt, b"\n")
-}
-
-fn print_grid_row(rt: &impl Print, key: [u8; 79], grid_row: u32) -> io::Result<()> {
-    print_held(rt, key, grid_row, 0)?;
-    print_held(rt, key, grid_row, 1)?;
-    print_held(rt, key, grid_row, 2)
+    print_run(rt, low, u8::MAX, run)?;
+    println!(rt;)
 }
 
 // The header, the two bytes of marks, and 7 for every byte of the seeds and words.
-fn sample() -> [u8; 79] {
-    let mut key = [7u8; 79];
+fn sample() -> [u8; KEY_BYTES] {
+    let mut key = [7u8; KEY_BYTES];
     key[0] = 2;
     key[1] = 0;
     key[2] = 6;
@@ -113,14 +69,17 @@ fn sample() -> [u8; 79] {
     key
 }
 
+// The lines say 0 where no seed is held.
 fn main(rt: HostRuntime) -> io::Result<()> {
     let key = sample();
-    let mut at: usize = 0;
-    while at < 79 {
+    for at in 0..KEY_BYTES {
         print_place(&rt, key, at)?;
-        at += 1;
     }
-    print_grid_row(&rt, key, 0)?;
-    print_grid_row(&rt, key, 1)?;
-    print_grid_row(&rt, key, 2)
+    for grid_row in 0..3 {
+        for column in 0..3 {
+            let place = held_seed_place(&key, grid_row, column).unwrap_or(0);
+            println!(rt; "grid row {grid_row} column {column}: {place}")?;
+        }
+    }
+    Ok(())
 }

@@ -4,39 +4,30 @@
 // program runs, and a line says whether what is written is equal to the file, byte for byte. Assumes nothing.
 #![tactic(auto)]
 
-ghost use Rattle.std.specs.Prelude.{◌≡◌, ◌≤◌, ◌<◌, length, IfOk};
+ghost use Rattle.std.specs.Prelude.{◌≤◌, ◌<◌, length, IfOk};
 
 use full_read::{opened, read_full};
+use program_output::zeros;
 use std::io::Eprint;
 use std::rt::Files;
 use std::str;
 
-// As many zeros as the joining program's output, and one more, so that a longer file is known. The `ensures` gives only the length, as in
-// `io::buffer`.
-fn file_buffer() -> [u8; 600001]
-    ensures { 600001 ≡ length result }
-{
-    [0; 600001]
-}
-
 // The most bytes of a case's input.
 const LONGEST: usize = 200000;
 
-// As many zeros as the longest input has bytes.
-fn input_buffer() -> [u8; 200000]
-    ensures { 200000 ≡ length result }
-{
-    [0; 200000]
-}
+// The most bytes of a stored output that are read: those of the joining program's output, and one more, so that a longer file is known.
+const MOST_STORED: usize = 600001;
 
+// A buffer with a count beside it, here and below: memory is fixed, and nothing is put on a heap.
 // Whether a file of data/ has these bytes and no others.
 fn stored(rt: &(impl Eprint + Files), bytes: &[u8], path: &str) -> std::io::Result<bool> {
     let mut file = opened(rt, path)?;
-    let mut expected = file_buffer();
+    let mut expected = zeros::<MOST_STORED>();
     let length = read_full(&mut file, &mut expected)?;
-    Ok(check::same(bytes, &expected[..length]))
+    Ok(bytes == &expected[..length])
 }
 
+// Input and path go as two, here and below: the bytes of one file and the name of another, from two words of a line.
 // Whether the dealing program writes the file.
 fn deals(rt: &(impl Eprint + Files), input: &[u8], path: &str) -> std::io::Result<bool> {
     let mut output = io::large_buffer();
@@ -44,6 +35,7 @@ fn deals(rt: &(impl Eprint + Files), input: &[u8], path: &str) -> std::io::Resul
     stored(rt, &output[..written], path)
 }
 
+// No twin of `deals`: the joining program is lent a table too, and a function of both would take each as a closure over its buffers.
 // Whether the joining program writes the file.
 fn joins(rt: &(impl Eprint + Files), input: &[u8], path: &str) -> std::io::Result<bool> {
     let mut table = io::large_buffer();
@@ -59,40 +51,27 @@ fn writes(
     input: &[u8],
     path: &str,
 ) -> std::io::Result<bool> {
-    if check::same(program, b"deal") {
-        return deals(rt, input, path);
+    match program {
+        b"deal" => deals(rt, input, path),
+        b"join" => joins(rt, input, path),
+        _ => Ok(false),
     }
-    if check::same(program, b"join") {
-        return joins(rt, input, path);
-    }
-    Ok(false)
 }
 
-// What a decimal digit stands for; more than any length where the byte is none.
-fn digit(byte: u8) -> usize
-    ensures { result ≤ 200001 }
-{
-    if byte < b'0' {
-        return LONGEST + 1;
-    }
-    if b'9' < byte {
-        return LONGEST + 1;
-    }
-    (byte - b'0') as usize
-}
-
+// 0 and no `Option`, and no `parse`: such a case reads nothing, and its file differs; `parse` wants text.
 // The length that a word says in decimal; 0 where it is none or is above the longest.
 fn length_in(word: &[u8]) -> usize
     ensures { result ≤ 200000 }
 {
-    let mut value: usize = 0;
-    let mut i: usize = 0;
-    while i < word.len() {
-        value = 10 * value + digit(word[i]);
+    let mut value = 0;
+    for byte in word {
+        if !byte.is_ascii_digit() {
+            return 0;
+        }
+        value = 10 * value + usize::from(*byte - b'0');
         if LONGEST < value {
             return 0;
         }
-        i += 1;
     }
     value
 }
@@ -108,23 +87,20 @@ fn equal(
     requires { count ≤ 200000 }
 {
     let mut file = opened(rt, input_path)?;
-    let mut input = input_buffer();
+    let mut input = zeros::<LONGEST>();
     read_full(&mut file, &mut input)?;
     writes(rt, program, &input[..count], output_path)
 }
 
+// A name and no `Option`: such a file is not there, and `opened` says so.
 // The file's name that a word is; of a word that is no text, a name that no file has.
 fn path_in(word: &[u8]) -> &str {
     str::from_utf8(word).unwrap_or("")
 }
 
-// The end of a line: what a comparison has found.
-fn found(rt: &impl Print, equal: bool) -> std::io::Result<()> {
-    if equal {
-        rt.write_all(b": equal\n")
-    } else {
-        rt.write_all(b": DIFFERENT\n")
-    }
+// What a comparison has found. test_vectors has it too: a crate between the two for one line would be no plainer.
+fn found(equal: bool) -> &'static str {
+    if equal { "equal" } else { "DIFFERENT" }
 }
 
 // Where the word that begins at a place ends: at the next space or line feed, or with the list.
@@ -132,17 +108,11 @@ fn word_end(list: &[u8], from: usize) -> usize
     requires { from ≤ length list.now }
     ensures { (from ≤ result) × (result ≤ length list.now) }
 {
-    let mut at = from;
-    while at < list.len() {
-        if list[at] == b' ' {
-            return at;
-        }
-        if list[at] == b'\n' {
-            return at;
-        }
-        at += 1;
+    let rest = &list[from..];
+    match rest.iter().position(|byte| matches!(byte, b' ' | b'\n')) {
+        Some(count) => from + count,
+        None => list.len(),
     }
-    at
 }
 
 // Where the word behind this end begins.
@@ -150,7 +120,7 @@ fn next_word(list: &[u8], end: usize) -> usize
     requires { end ≤ length list.now }
     ensures { (end ≤ result) × (result ≤ length list.now) }
 {
-    if end < list.len() { end + 1 } else { end }
+    (end + 1).min(list.len())
 }
 
 // Runs the case of the line that begins at a place, and answers where the next one begins.
@@ -173,7 +143,7 @@ fn run_line(rt: &(impl Eprint + Files + Print), list: &[u8], at: usize) -> std::
         length_in(&list[length..length_end]),
         path_in(&list[output..output_end]),
     )?;
-    found(rt, same)?;
+    println!(rt; ": {}", found(same))?;
     Ok(output_end + 1)
 }
 

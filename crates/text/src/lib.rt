@@ -18,6 +18,7 @@ fn put_named(out: &mut [u8], at: usize, word: &[u8], number: u32) -> usize
     put_decimal(out, next, number)
 }
 
+// By its number, which is what the line says: this crate lays out digits and knows no refusals.
 // Writes the line of a refusal.
 pub fn put_refused_line(out: &mut [u8], at: usize, refusal: u32) -> usize
     requires { at + length (refused_line refusal) ≤ length out.old }
@@ -55,6 +56,7 @@ fn put_position_line(out: &mut [u8], at: usize, position: u32, value: &[u8]) -> 
     put_byte(out, next, b'\n')
 }
 
+// `positions` beside the table: a line says its position, and the first line says how many there are.
 // Writes the lines of all positions from 0 up.
 fn put_position_lines(
     out: &mut [u8],
@@ -67,13 +69,9 @@ fn put_position_lines(
     ensures { Wrote at (position_lines positions 0 value_bytes table.now) result out.old out.new }
 {
     let mut next = at;
-    let mut from: usize = 0;
-    let mut position: u32 = 0;
-    while position < positions {
-        let end = from + value_bytes;
-        next = put_position_line(out, next, position, &table[from..end]);
-        from = end;
-        position += 1;
+    for position in 0..positions {
+        let from = position as usize * value_bytes;
+        next = put_position_line(out, next, position, &table[from..from + value_bytes]);
     }
     next
 }

@@ -8,11 +8,15 @@ use native.Mathlib.Nat.{mul-le-mul_left, mul-le-mul_right}
 use native.Mathlib.Numerals.{add-one}
 use native.Mathlib.Omega.{arith}
 use lib.Dec.{ltb, eqb}
-use lib.ListN.{length, take, drop, replicate, length-append, length-replicate, take-append-drop, drop_of_length-le}
+use lib.ListN.{length, take, drop, replicate, length-append, take-append-drop, drop_of_length-le}
 use lib.Seq.{take_all, length-take-le}
 use borrow.Author.Tests.{lt-ltb, ltb-false, eqb-true}
+use Rattle.std.specs.Prelude.{Result, ⊤, IsOk}
+use Rattle.refusal.specs.Refusing.{refusal_number, answer_number}
+use Rattle.refusal.specs.declared.Refusal.{Refusal}
+use Rattle.refusal.proofs.Numbers.{number_some}
 use Rattle.xor.specs.Xor.{xors, zeros, bytes_good}
-use Rattle.xor.proofs.Laws.{good_take, good_drop, length-xors}
+use Rattle.xor.proofs.Laws.{good_take, good_drop}
 use Rattle.grid.specs.Grid.{Board, board}
 use Rattle.grid.specs.Joining.{over}
 use Rattle.grid.proofs.Facts.{board_in}
@@ -23,11 +27,10 @@ use Rattle.keys.proofs.Accepted.{passed, first_fits, next_fits, neither}
 use Rattle.keys.proofs.Dealing.{lent_in}
 use Rattle.keys.proofs.Lending.{accepted_lent}
 use Rattle.keys.proofs.Numbers.{one_group}
-use Rattle.call_answers.specs.Answers.{PutSays, key_rule, DealSays, LongSays, OpenOneSays, OpenAllSays}
+use Rattle.call_answers.specs.Answers.{Answer, answer_told, says, PutSays, key_rule, DealSays, LongSays, OpenOneSays, OpenAllSays}
 use Rattle.seed_rows.specs.Rows.{rule}
 use Rattle.writer.proofs.Laws.{in_front_part}
 use Rattle.promises.specs.Calls.{Dealt, key_part, KeysGood, DealsOpen, OpensAgree, PastKept}
-use Rattle.call_answers.specs.declared.Answer.{Answer}
 use Rattle.witness.specs.Witness.{piece_refusal, ShowsThePiece, BothWays, keys_lent, table_of, OpensEach, tables_joined, last_table}
 use Rattle.call_answers.proofs.Answering.{put_number, put_refused, put_done}
 use Rattle.call_answers.proofs.Putting.{answer_is, untouched}
@@ -87,9 +90,9 @@ module _ (key : List ℕ) (asked : ℕ) (one one_now : List ℕ) (r : ℕ) (says
 -- JOINING TABLES
 
 -- before the first key
-pub none_joined : (K n size : ℕ) (keys out : List ℕ) → out ≡ replicate n 0 → n ≡ size → (length out ≡ size) × (out ≡ tables_joined 0 K size keys)
+pub none_joined : (K n size : ℕ) (keys out : List ℕ) → out ≡ replicate n 0 → n ≡ size → out ≡ tables_joined 0 K size keys
 unfolding tables_joined over zeros
-none_joined K n size keys out e same = (ap length e ∙ length-replicate n 0 ∙ same, e ∙ ap (λ (k : ℕ). replicate k 0) same)
+none_joined K n size keys out e same = e ∙ ap (λ (k : ℕ). replicate k 0) same
 
 module _ (K players size player : ℕ) (keys : List ℕ) (good : bytes_good keys ≡ true) (each : OpensEach keys K players size) (more : player < players) where
   -- the table that Open all leaves of the next key, where it just fits
@@ -107,22 +110,30 @@ module _ (K players size player : ℕ) (keys : List ℕ) (good : bytes_good keys
       let now : out_now ≡ written = called.now ∙ rw (drop_of_length-le out {i = length written} (omega arith)) (append-nil written) in
       (now, ap length now ∙ whole)
 
-  -- one turn
-  pub turn : (r : ℕ) (out out_now tables joined joined_now : List ℕ) → length out ≡ size → length joined ≡ size →
-      OpenAllSays (take (player * K + K - player * K) (drop (player * K) keys)) r out out_now →
-      joined ≡ tables_joined player K size keys → joined_now ≡ xors joined (take size out_now) →
-      (joined_now ≡ tables_joined (player + 1) K size keys) × (out_now ≡ last_table (player + 1) K keys tables)
-      × (length out_now ≡ size) × (length joined_now ≡ size)
-  unfolding tables_joined last_table key_part
-  turn r out out_now tables joined joined_now long joined_long says so_far now =
-      let cut : player * K + K - player * K ≡ K = omega arith in
-      let next = next_table r out out_now long (subst (λ (k : ℕ). OpenAllSays (take k (drop (player * K) keys)) r out out_now) cut says) in
-      let whole : take size out_now ≡ table_of K keys player = take_all size out_now (omega (arith, next.1)) ∙ next.0 in (
-        now ∙ rw (whole, so_far, add-one player) (sym (over_last player 0 size player (λ i. table_of K keys i) (omega arith))),
-        rw (add-one player) next.0,
-        next.1,
-        ap length now ∙ length-xors joined (take size out_now) (joined_long ∙ sym (ap length whole ∙ sym (ap length next.0) ∙ next.1)) ∙ joined_long,
-      )
+  -- one turn: Open all answers, and what it leaves is joined
+  module _ (out out_now : List ℕ) (long : length out ≡ size) where
+    pub turn_opens : (r : Result ⊤ Refusal) →
+        OpenAllSays (take (player * K + K - player * K) (drop (player * K) keys)) (answer_number r) out out_now → IsOk r
+    unfolding key_part
+    turn_opens (Result.Ok u) says = refl
+    turn_opens (Result.Err refusal) says =
+        let cut : player * K + K - player * K ≡ K = omega arith in
+        let given = subst (λ (k : ℕ). OpenAllSays (take k (drop (player * K) keys)) (refusal_number refusal) out out_now) cut says in
+        let sized = (each.1 player more).1 in
+        absurd (number_some refusal (all_answered (key_part K player keys) _ out out_now (each.1 player more).0 (omega (arith, sized)) given))
+
+    pub turn : (r : ℕ) (tables joined joined_now : List ℕ) →
+        OpenAllSays (take (player * K + K - player * K) (drop (player * K) keys)) r out out_now →
+        joined ≡ tables_joined player K size keys → joined_now ≡ xors joined (take size out_now) →
+        (joined_now ≡ tables_joined (player + 1) K size keys) × (out_now ≡ last_table (player + 1) K keys tables)
+    unfolding tables_joined last_table key_part
+    turn r tables joined joined_now says so_far now =
+        let cut : player * K + K - player * K ≡ K = omega arith in
+        let next = next_table r out out_now long (subst (λ (k : ℕ). OpenAllSays (take k (drop (player * K) keys)) r out out_now) cut says) in
+        let whole : take size out_now ≡ table_of K keys player = take_all size out_now (omega (arith, next.1)) ∙ next.0 in (
+          now ∙ rw (whole, so_far, add-one player) (sym (over_last player 0 size player (λ i. table_of K keys i) (omega arith))),
+          rw (add-one player) next.0,
+        )
 
 -- ROOM FOR THE KEYS
 
@@ -221,6 +232,12 @@ module _ {p n m w point : ℕ} {value arrays seeds words keys tables joined : Li
           let whole = take_all asked.room keys (omega (arith, rooms.0)) in
           let past : keys_now ≡ asked.part = rw (drop_of_length-le keys {i = asked.room} (omega (arith, rooms.0))) (append-nil asked.part) in
           rw past (rw (whole, z) at asked.says)
+
+      -- and Key length refuses no board that Deal accepts
+      pub length_there : (refusal : Refusal) → LongSays p n m w (answer_told (Result.Err refusal)) → ⊥
+      unfolding piece_refusal LongSays says
+      length_there refusal said =
+          number_some refusal (said.0 ∙ (accepted_lent on l (neither (deal_refusal on l) _ none).0).sizes.accepted)
 
       module _ (long : Answer) (long_says : LongSays p n m w long) where
         deal : Dealt p n m w point value long keys_now

@@ -6,27 +6,27 @@
 #![tactic(auto)]
 
 ghost use Rattle.std.specs.Prelude.{◌≡◌, length};
+ghost use Rattle.refusal.specs.Refusing.{answer_number};
 ghost use Rattle.grid.specs.Grid.{board};
 ghost use Rattle.keys.specs.Keys.{lent};
 ghost use Rattle.witness.specs.Witness.{ShowsThePiece, BothWays};
 ghost use Rattle.witness.specs.Witness.{keys_lent, OpensEach, tables_joined, last_table};
 
-use nosingginger::{deal, deal_number, key_length, open_all, open_one};
+use nosingginger::{Refusal, deal, key_length, open_all, open_one};
 use writer::clear;
 use xor::xor_into;
 
 // How many bytes of the keys Deal is lent: all, or none where a table has no room. Lent none, Deal answers its own
 // number or 9 and writes nothing.
+#[tactic(auto, unfolding(crate::specs::Witness::keys_lent))]
 fn keys_lent(keys: usize, table: usize, joined: usize, size: usize) -> usize
     ensures { result ≡ keys_lent keys table joined size }
 {
-    if table < size {
-        return 0;
+    if table < size || joined < size {
+        0
+    } else {
+        keys
     }
-    if joined < size {
-        return 0;
-    }
-    keys
 }
 
 // Fills `joined` with the XOR of the tables of all keys. Each key is opened into `table`, where the last one's stays.
@@ -40,17 +40,15 @@ fn join_tables(keys: &[u8], key_bytes: usize, players: usize, table: &mut [u8], 
 {
     clear(joined);
     let size = table.len();
-    let mut player: usize = 0;
-    while player < players {
+    for player in 0..players {
         let from = player * key_bytes;
-        let end = from + key_bytes;
-        open_all(&keys[from..end], table);
+        open_all(&keys[from..from + key_bytes], table).unwrap();
         xor_into(joined, &table[..size]);
-        player += 1;
     }
 }
 
 // Deals, opens every key and joins the tables, into three lent outputs: the keys, one table in turn, the tables joined.
+// Its first nine parameters are Deal's, one by one, as it speaks of the deals that Deal refuses too.
 pub fn deal_open_join(
     players: u32,
     positions: u32,
@@ -64,15 +62,15 @@ pub fn deal_open_join(
     keys: &mut [u8],
     table: &mut [u8],
     joined: &mut [u8],
-) -> u32
+) -> Result<(), Refusal>
     ensures { ShowsThePiece (board players positions width value_bytes)
         (lent point value.now arrays.now seeds.now words.now)
-        keys.old table.old joined.old result
+        keys.old table.old joined.old (answer_number result)
         keys.new table.new joined.new }
 {
-    let size = (positions as usize) * (value_bytes as usize);
+    let size = positions as usize * value_bytes as usize;
     let room = keys_lent(keys.len(), table.len(), joined.len(), size);
-    let answer = deal(
+    deal(
         players,
         positions,
         width,
@@ -83,31 +81,28 @@ pub fn deal_open_join(
         seeds,
         words,
         &mut keys[..room],
-    );
-    let refusal = deal_number(answer);
-    if refusal != 0 {
-        return refusal;
-    }
-    let long = key_length(players, positions, width, value_bytes);
-    let key_bytes = long.value as usize;
+    )?;
+    let key_bytes = key_length(players, positions, width, value_bytes)?;
     join_tables(
         &keys[..],
-        key_bytes,
+        key_bytes as usize,
         players as usize,
         &mut table[..size],
         &mut joined[..size],
     );
-    0
+    Ok(())
 }
 
 // Opens one square of a key alone, and then the whole key.
-pub fn open_both_ways(key: &[u8], position: u32, one: &mut [u8], all: &mut [u8]) -> u32
-    ensures { BothWays key.now position one.old all.old result
+pub fn open_both_ways(
+    key: &[u8],
+    position: u32,
+    one: &mut [u8],
+    all: &mut [u8],
+) -> Result<(), Refusal>
+    ensures { BothWays key.now position one.old all.old (answer_number result)
         one.new all.new }
 {
-    let refusal = open_one(key, position, one);
-    if refusal != 0 {
-        return refusal;
-    }
+    open_one(key, position, one)?;
     open_all(key, all)
 }

@@ -1,12 +1,13 @@
 -- Parts of a lent string as the code cuts them out: from a place to another, and from a place to the end. Assumes nothing.
-use mathlib.Core.Path.{◌≡◌, ap, ◌∙◌}
-use mathlib.Core.List.{List}
+use mathlib.Core.Path.{◌≡◌, sym, ap, ◌∙◌}
+use mathlib.Core.List.{List, ◌++◌, append_assoc}
 use Prim.Native.Nat.{ℕ, suc, ◌+◌, ◌*◌, ◌-◌, ◌≤◌, ◌<◌}
 use native.Mathlib.Omega.{arith}
-use native.Mathlib.Nat.{suc-mul, mul-le-mul_right}
+use native.Mathlib.Nat.{zero-add, suc-mul, mul-le-mul_right}
 use lib.ListN.{length, take, drop, length-drop}
 use lib.Seq.{length-take-le, take_all, take-take, drop-drop}
-use Rattle.writer.proofs.Laws.{front_end}
+use Rattle.writer.specs.Written.{written}
+use Rattle.writer.proofs.Laws.{front_end, written_front}
 
 -- from a place on, up to n bytes behind it, are n bytes
 pub part_long : (from n : ℕ) → from + n - from ≡ n
@@ -40,3 +41,17 @@ part_of_part from count at l xs inside within =
     ∙ ap (take count) (front_end from (l - from) (drop at xs) (rw length-drop (omega arith)))
     ∙ take-take count (l - from) (drop from (drop at xs)) enough
     ∙ ap (take count) (drop-drop from at xs)
+
+-- what is written at the front of what stands behind a place is written at that place
+pub behind_written : (at : ℕ) (new old : List ℕ) → take at old ++ written 0 new (drop at old) ≡ written at new old
+unfolding written
+behind_written at new old =
+    rw (written_front new (drop at old), drop-drop (length new) at old) (sym (append_assoc (take at old) new (drop (at + length new) old)))
+
+-- the bytes that stand before a place, written behind it, by the two parts that are cut there
+pub again_written : (at from count : ℕ) (old before behind now : List ℕ) → from + count ≤ at → at ≤ length old → before ≡ take at old → behind ≡ drop at old →
+    now ≡ written 0 (take (from + count - from) (drop from before)) behind → before ++ now ≡ written at (take count (drop from old)) old
+again_written at from count old before behind now inside within front back says =
+    let copied : take (from + count - from) (drop from before) ≡ take count (drop from old) =
+    rw (part_long from count, front) (part_of_part from count 0 at old inside (omega arith) ∙ ap (λ (n : ℕ). take count (drop n old)) (zero-add from)) in
+    rw (says, copied, front, back) (behind_written at (take count (drop from old)) old)

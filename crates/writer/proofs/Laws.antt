@@ -1,12 +1,13 @@
 -- The laws of writing one part behind another. Assumes nothing.
 use mathlib.Core.Path.{◌≡◌, refl, sym, ap, ◌∙◌, subst}
 use mathlib.Core.List.{List, [], ◌∷◌, ◌++◌, append_assoc, append-nil}
-use Prim.Native.Nat.{ℕ, suc, ◌+◌, ◌-◌, ◌<◌, ◌≤◌}
+use Prim.Native.Nat.{ℕ, suc, ◌+◌, ◌<◌, ◌≤◌}
 use native.Mathlib.Omega.{arith}
 use native.Mathlib.Nat.{add-zero, zero-add, add_assoc}
 use native.Mathlib.Numerals.{add-one}
 use lib.ListN.{length, get_or, take, drop, set, replicate, length-append, length-drop, length-replicate, get_or-replicate, take-append-drop, get_or-append}
 use lib.Seq.{length-take-le, take-length, take_at, drop_at, drop-drop, drop-length, paste, paste-suc, take-append-le, take-take, take-add, get_or-take, set_split, append_snoc}
+use borrow.Rule.Slice.PartMut.{put_mid}
 use Rattle.writer.specs.Written.{written, in_front, Wrote}
 
 -- writing nothing changes nothing
@@ -87,6 +88,13 @@ wrote_nothing at old = record { next_is = sym (add-zero at); now_is = sym (writt
 -- a writer keeps the output's length
 pub wrote_length : {at next : ℕ} (new : List ℕ) {old now : List ℕ} → at + length new ≤ length old → Wrote at new next old now → length now ≡ length old
 wrote_length {at} new {old} h p = ap length p.now_is ∙ length-written at new old h
+
+-- WHAT THE LIBRARY'S METHODS LEAVE: a part of the output that became `new`
+
+pub part_became : (place at n : ℕ) (new old part : List ℕ) → place ≡ at → n ≡ length new → part ≡ new → put_mid place n old part ≡ written at new old
+unfolding written
+part_became place at n new old part here long is =
+    rw (here, long, is, drop-drop (length new) at old) (sym (append_assoc (take at old) new (drop (at + length new) old)))
 
 -- THE LOOP OF A WRITER: after i turns the first i bytes of `new` stand at their place
 

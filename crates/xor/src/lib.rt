@@ -10,9 +10,7 @@ pub fn xor_into(out: &mut [u8], row: &[u8])
     requires { length out.old ≡ length row.now }
     ensures { out.new ≡ xors out.old row.now }
 {
-    let mut i: usize = 0;
-    while i < out.len() {
-        out[i] = out[i] ^ row[i];
-        i += 1;
+    for (i, byte) in out.iter_mut().enumerate() {
+        *byte ^= row[i];
     }
 }

@@ -48,12 +48,6 @@ start_in c = omega (arith, cards_in (length c.args.sum.now) (length c.args.wante
 pub overflow_add-end : goal.overflow_add-end
 overflow_add-end c = omega (arith, more c)
 
-pub slice_bounds-add_two-count : goal.slice_bounds-add_two-count
-slice_bounds-add_two-count c = omega arith
-
-pub slice_bounds-add_two-start : goal.slice_bounds-add_two-start
-slice_bounds-add_two-start c = omega arith
-
 pub slice_bounds-add_two-end : goal.slice_bounds-add_two-end
 slice_bounds-add_two-end c = more c
 
@@ -65,9 +59,6 @@ slice_bounds-add_two-count-in-loop-at c = omega (arith, start_in (goal.at.slice_
 
 pub slice_bounds-add_two-start-in-loop-at : goal.slice_bounds-add_two-start-in-loop-at
 slice_bounds-add_two-start-in-loop-at c = omega (arith, start_in (goal.at.slice_bounds-add_two-start-in-loop-at c).In-loop-at)
-
-pub slice_bounds-add_two-end-in-loop-at : goal.slice_bounds-add_two-end-in-loop-at
-slice_bounds-add_two-end-in-loop-at c = omega arith
 
 pub add_two-requires : goal.add_two-requires
 add_two-requires c =
@@ -113,12 +104,6 @@ overflow_add-end-2 c = omega (arith, card_in c)
 
 pub bounds-wanted-at : goal.bounds-wanted-at
 bounds-wanted-at c = omega (arith, last (goal.at.bounds-wanted-at c).Else-at-wanted)
-
-pub slice_bounds-add_card-count : goal.slice_bounds-add_card-count
-slice_bounds-add_card-count c = omega arith
-
-pub slice_bounds-add_card-start : goal.slice_bounds-add_card-start
-slice_bounds-add_card-start c = omega arith
 
 pub slice_bounds-add_card-end : goal.slice_bounds-add_card-end
 slice_bounds-add_card-end c = omega (arith, card_in (goal.at.slice_bounds-add_card-end c).Else-at-wanted)

@@ -62,12 +62,6 @@ room c =
 pub overflow_add-end : goal.overflow_add-end
 overflow_add-end c = omega (arith, room c)
 
-pub slice_bounds-add_stretch-count : goal.slice_bounds-add_stretch-count
-slice_bounds-add_stretch-count c = omega arith
-
-pub slice_bounds-add_stretch-start : goal.slice_bounds-add_stretch-start
-slice_bounds-add_stretch-start c = omega arith
-
 pub slice_bounds-add_stretch-end : goal.slice_bounds-add_stretch-end
 slice_bounds-add_stretch-end c = room c
 
@@ -77,17 +71,11 @@ add_stretch-requires c =
     let so_far = l.invariant.2 in
     (c.requires.0, c.requires.1, c.requires.2, omega (arith, mid_len l.done (l.done + 16) l.sum (room (goal.at.add_stretch-requires c).In-loop-done), room (goal.at.add_stretch-requires c).In-loop-done, so_far.same))
 
-pub loop-done-smaller : goal.loop-done-smaller
-loop-done-smaller c = omega arith
-
 pub slice_bounds-add_stretch-count-2 : goal.slice_bounds-add_stretch-count-2
 slice_bounds-add_stretch-count-2 c = let so_far = c.loop-done.invariant.2 in omega (arith, so_far.same)
 
 pub slice_bounds-add_stretch-start-2 : goal.slice_bounds-add_stretch-start-2
 slice_bounds-add_stretch-start-2 c = let so_far = c.loop-done.invariant.2 in omega (arith, so_far.same)
-
-pub slice_bounds-add_stretch-end-2 : goal.slice_bounds-add_stretch-end-2
-slice_bounds-add_stretch-end-2 c = omega arith
 
 pub add_stretch-requires-2 : goal.add_stretch-requires-2
 add_stretch-requires-2 c =

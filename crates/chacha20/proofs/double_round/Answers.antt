@@ -1,5 +1,5 @@
 -- `chacha20::double_round` meets its contract. Eight lines at the table's places. Assumes nothing.
-use Rattle.std.proofs.Common.{arith, rules}
+use Rattle.std.proofs.Common.{arith}
 use Rattle.chacha20.proofs.Together.{eight_lines}
 use Rattle.chacha20.proofs.double_round.Goals as goal
 

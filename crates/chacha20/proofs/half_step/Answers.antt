@@ -1,5 +1,4 @@
 -- `chacha20::half_step` meets its contract. Both words are stored as the definition has them. Assumes nothing.
-use Rattle.std.proofs.Common.{rules}
 use Rattle.chacha20.specs.Expand.{add, at, mixed}
 use Rattle.chacha20.proofs.half_step.Goals as goal
 

@@ -1,5 +1,4 @@
 -- `chacha20::odd_lines` meets its contract. Four half steps, one after another. Assumes nothing.
-use Rattle.std.proofs.Common.{rules}
 use Rattle.chacha20.specs.Expand.{at}
 use Rattle.chacha20.proofs.Together.{odd_steps}
 use Rattle.chacha20.proofs.odd_lines.Goals as goal

@@ -1,5 +1,4 @@
 -- `chacha20::quarter_round` meets its contract. Four half steps, one after another. Assumes nothing.
-use Rattle.std.proofs.Common.{rules}
 use Rattle.chacha20.specs.Expand.{at}
 use Rattle.chacha20.proofs.Rounds.{four_half_steps}
 use Rattle.chacha20.specs.Rfc8439.{quarter_at}

@@ -1,5 +1,5 @@
 -- `chacha20::word_by_word` meets its contract. The words are the state's. Assumes nothing.
-use Rattle.std.proofs.Common.{arith, rules}
+use Rattle.std.proofs.Common.{arith}
 use Rattle.chacha20.proofs.Together.{listed, word_by_word}
 use Rattle.chacha20.proofs.word_by_word.Goals as goal
 

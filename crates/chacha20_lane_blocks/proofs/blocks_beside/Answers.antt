@@ -1,5 +1,4 @@
 -- `chacha20_lane_blocks::blocks_beside` meets its contract. The rounds, the sums, and their bytes. Assumes nothing.
-use borrow.Author.Rules.{rules}
 use native.Mathlib.Omega.{arith}
 use Rattle.chacha20_lanes.proofs.Laid.{blocks_laid}
 use Rattle.chacha20_lane_blocks.proofs.blocks_beside.Goals as goal

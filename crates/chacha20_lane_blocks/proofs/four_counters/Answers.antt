@@ -1,7 +1,6 @@
 -- `chacha20_lane_blocks::four_counters` meets its contract. Four states of one seed, and their blocks. Assumes nothing.
-use borrow.Author.Rules.{rules}
 use Rattle.chacha20_lanes.proofs.Laid.{four_counters}
 use Rattle.chacha20_lane_blocks.proofs.four_counters.Goals as goal
 
 pub returns : goal.returns
-returns c = let a = c.args in four_counters a.counter a.seed.now _ _ c.open_counters.ensures c.blocks_beside.ensures
+returns c = let a = c.args in four_counters a.counter a.seed.now _ _ c.four_lanes-initial.ensures c.blocks_beside.ensures

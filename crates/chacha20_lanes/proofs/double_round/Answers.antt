@@ -1,5 +1,4 @@
 -- `chacha20_lanes::double_round` meets its contract. Eight lines at the table's places. Assumes nothing.
-use borrow.Author.Rules.{rules}
 use native.Mathlib.Omega.{arith}
 use Rattle.chacha20.proofs.Together.{eight_lines}
 use Rattle.chacha20_lanes.proofs.double_round.Goals as goal

@@ -8,7 +8,6 @@ use lib.ListN.{get_or, take, drop}
 use Rattle.grid.specs.Grid.{bit}
 use Rattle.writer.specs.Written.{Wrote}
 use Rattle.writer.proofs.Cuts.{part_long, part_whole}
-use borrow.Author.Rules.{rules}
 use Rattle.deal_grid_rows.specs.Rows.{column_seed}
 use Rattle.deal_grid_rows.proofs.put_column.Goals as goal
 
@@ -22,7 +21,7 @@ pub put_if-requires : goal.put_if-requires
 put_if-requires c =
     let a = c.args in (
       part_whole (32 * a.column) 32 a.seeds.now (omega arith),
-      rw (seed_is a.player a.column a.array.now a.seeds.now c.marked.ensures) c.requires.3,
+      rw (seed_is a.player.bit a.column a.array.now a.seeds.now c.marks.ensures) c.requires.2,
     )
 
 pub returns : goal.returns
@@ -30,4 +29,4 @@ returns c =
     let a = c.args in
     let p = c.put_if in
     subst (λ (x : List ℕ). Wrote a.at x p.result a.out.now p.new.out)
-    (seed_is a.player a.column a.array.now a.seeds.now c.marked.ensures) p.ensures
+    (seed_is a.player.bit a.column a.array.now a.seeds.now c.marks.ensures) p.ensures

@@ -1,63 +1,46 @@
-use mathlib.Core.Path.{◌≡◌, refl, ◌∙◌, subst}
-use Prim.Native.Nat.{ℕ, ◌+◌, ◌-◌, ◌≤◌}
-use native.Mathlib.Omega.{arith}
-use lib.ListN.{length, take}
+use Rattle.std.proofs.Common.{List, ℕ, ◌+◌, ◌≤◌, length, subst, arith}
+use lib.Seq.{take_all}
 use Rattle.keys.specs.Keys.{held_seeds}
 use Rattle.writer.specs.Written.{Wrote}
-use borrow.Author.Rules.{rules}
 use Rattle.deal_grid_rows.proofs.RowBytes.{row_parts, held_none, held_room, held_turn, four_row}
 use Rattle.deal_grid_rows.proofs.put_four.Goals as goal
 use Rattle.deal_grid_rows.proofs.put_four.Goals.{After-put_byte-next}
 
 -- behind the byte of marks there is room for the seeds
 room : (b : After-put_byte-next) → let a = b.args in
-    b.put_byte-next.result + length (held_seeds a.player a.array.now a.seeds.now) ≤ length b.put_byte-next.new.out
+    b.put_byte-next.result + length (held_seeds a.player.bit a.array.now a.seeds.now) ≤ length b.put_byte-next.new.out
 room b =
-    let long = row_parts 1 b.args.player b.args.array.now b.args.seeds.now in
-    omega (arith, b.requires.3, b.put_byte-next.ensures.next_is, b.put_byte-next.auto.out)
+    let long = row_parts 1 b.args.player.bit b.args.array.now b.args.seeds.now in
+    omega (arith, b.requires.2, b.put_byte-next.ensures.next_is, b.put_byte-next.auto.out)
+
+pub returns : goal.returns
+returns c =
+    let l = c.loop-column in
+    let a = c.args in
+    four_row a.at a.player.bit a.array.now a.seeds.now c.requires.0 c.requires.2 c.four_marks.ensures c.put_byte-next.ensures
+    (subst (λ (k : List ℕ). Wrote c.put_byte-next.result (held_seeds a.player.bit k a.seeds.now) l.next c.put_byte-next.new.out l.out)
+    (take_all l.column a.array.now (omega (arith, c.requires.0))) l.invariant)
 
 pub put_byte-next-requires : goal.put_byte-next-requires
 put_byte-next-requires c =
-    omega (arith, c.requires.3, row_parts 1 c.args.player c.args.array.now c.args.seeds.now)
+    omega (arith, c.requires.2, row_parts 1 c.args.player.bit c.args.array.now c.args.seeds.now)
 
 pub loop-column-init : goal.loop-column-init
 loop-column-init c =
     let a = c.args in
-    (omega arith, refl, held_none c.put_byte-next.result a.player a.array.now a.seeds.now c.put_byte-next.new.out (room (goal.at.loop-column-init c).After-put_byte-next))
+    held_none c.put_byte-next.result a.player.bit a.array.now a.seeds.now c.put_byte-next.new.out (room (goal.at.loop-column-init c).After-put_byte-next)
 
 pub put_column-next-requires : goal.put_column-next-requires
 put_column-next-requires c =
     let l = c.loop-column in
     let a = c.args in (
       omega (arith, c.requires.0),
-      omega (arith, c.requires.1),
-      omega (arith, c.requires.1, c.requires.2),
-      held_room c.put_byte-next.result a.player a.array.now a.seeds.now c.put_byte-next.new.out (room (goal.at.put_column-next-requires c).After-put_byte-next) l.column (omega (arith, c.requires.1)) l.invariant.2,
+      omega (arith, c.requires.0, c.requires.1),
+      held_room c.put_byte-next.result a.player.bit a.array.now a.seeds.now c.put_byte-next.new.out (room (goal.at.put_column-next-requires c).After-put_byte-next) l.column (omega (arith, c.requires.0)) l.invariant,
     )
-
-pub overflow_add-column : goal.overflow_add-column
-overflow_add-column c = omega arith
-
-pub loop-column-smaller : goal.loop-column-smaller
-loop-column-smaller c = omega arith
 
 pub loop-column-preserved : goal.loop-column-preserved
 loop-column-preserved c =
-    let p = c.put_column-next in
-    let l = c.loop-column in
-    let a = c.args in (
-      omega arith,
-      p.auto.out ∙ l.invariant.1,
-      held_turn c.put_byte-next.result a.player a.array.now a.seeds.now c.put_byte-next.new.out (room (goal.at.loop-column-preserved c).After-put_byte-next) l.column (omega (arith, c.requires.1)) l.invariant.2 p.ensures,
-    )
-
-pub shape_of-out : goal.shape_of-out
-shape_of-out c = c.loop-column.invariant.1 ∙ c.put_byte-next.auto.out
-
-pub returns : goal.returns
-returns c =
     let l = c.loop-column in
     let a = c.args in
-    let all : l.column ≡ 4 = omega arith in
-    four_row a.at a.player a.array.now a.seeds.now c.requires.1 c.requires.3 c.four_marks.ensures c.put_byte-next.ensures
-    (subst (λ (k : ℕ). Wrote c.put_byte-next.result (held_seeds a.player (take k a.array.now) a.seeds.now) l.next c.put_byte-next.new.out l.out) all l.invariant.2)
+    held_turn c.put_byte-next.result a.player.bit a.array.now a.seeds.now c.put_byte-next.new.out (room (goal.at.loop-column-preserved c).After-put_byte-next) l.column (omega (arith, c.requires.0)) l.invariant c.put_column-next.ensures

@@ -6,7 +6,6 @@ use native.Mathlib.Omega.{arith}
 use lib.ListN.{length, drop_of_length-le}
 use Rattle.writer.specs.Written.{written}
 use Rattle.writer.proofs.Laws.{written_front}
-use borrow.Author.Rules.{rules}
 use Rattle.deal_grid_rows.proofs.seed_bytes.Goals as goal
 
 -- a string written over another of its length

@@ -1,48 +1,56 @@
 -- `deal_keys::put_front` meets its contract: header, grid rows, and the lent words, one behind the other. Assumes nothing.
-use Prim.Native.Nat.{◌+◌, ◌≤◌}
+use mathlib.Core.Path.{◌≡◌, ap, ◌∙◌, subst}
+use mathlib.Core.List.{List}
+use Prim.Native.Nat.{ℕ, ◌+◌, ◌≤◌}
 use native.Mathlib.Omega.{arith}
 use lib.ListN.{length}
-use Rattle.grid.specs.Grid.{grid_rows}
+use Rattle.grid.specs.Grid.{board_refusal, grid_rows}
 use Rattle.grid.specs.Code.{board_of}
 use Rattle.keys.specs.Keys.{header, body_from}
 use Rattle.key_header.specs.Answers.{header_written}
-use borrow.Author.Rules.{rules}
+use Rattle.key_header.proofs.Lengths.{header_for}
+use Rattle.writer.specs.Written.{Wrote}
 use Rattle.deal_keys.proofs.KeyBytes.{front_parts, front_wrote}
-use Rattle.deal_keys.proofs.put_front.Reads as reads
-use Rattle.deal_keys.proofs.put_front.Lts as lts
-use Rattle.key_header.proofs.put_header.Reads as put-header-reads
-use Rattle.deal_grid_rows.proofs.put_grid_rows.Reads as put-grid-rows-reads
-use Rattle.writer.proofs.put.Reads as put_reads
 use Rattle.deal_keys.proofs.put_front.Goals as goal
-use Rattle.deal_keys.proofs.put_front.Goals.{Start}
+use Rattle.deal_keys.proofs.put_front.Goals.{Start, After-of}
 
 -- the front has room for its parts
-long : (s : Start) → let a = s.args in let b = board_of a.board in
-    a.at + (length (header b a.player) + length (body_from (grid_rows b) b a.player a.arrays.now a.seeds.now) + length a.words.now) ≤ length a.out.now
+long : (s : Start) → let a = s.args in let d = a.dealing.now in let b = board_of d.board in
+    a.at + (length (header b a.player) + length (body_from (grid_rows b) b a.player d.arrays.now d.seeds.now) + length d.words.now) ≤ length a.out.now
 long s =
     let a = s.args in
-    omega (arith, s.requires.4, front_parts (board_of a.board) a.player a.arrays.now a.seeds.now a.words.now)
+    let d = a.dealing.now in
+    omega (arith, s.requires.1, front_parts (board_of d.board) a.player d.arrays.now d.seeds.now d.words.now)
 
-pub put_header-next-requires : goal.put_header-next-requires
-unfolding header_written
-put_header-next-requires c =
-    (c.requires.0, omega (arith, c.requires.1), omega (arith, long (goal.at.put_header-next-requires c).Start))
-
-pub put_grid_rows-next-requires : goal.put_grid_rows-next-requires
-unfolding header_written
-put_grid_rows-next-requires c =
-    let p = c.put_header-next in
-    (c.requires.0, c.requires.1, c.requires.2, c.requires.3, omega (arith, long (goal.at.put_grid_rows-next-requires c).Start, p.ensures.next_is, p.auto.out))
-
-pub put-requires : goal.put-requires
-unfolding header_written
-put-requires c =
-    let p = c.put_header-next in
-    let q = c.put_grid_rows-next in
-    omega (arith, long (goal.at.put-requires c).Start, p.ensures.next_is, p.auto.out, q.ensures.next_is, q.auto.out)
+-- the header that is written is the board's and the player's
+own : (c : After-of) → header_written c.of.result ≡ header (board_of c.args.dealing.now.board) c.args.player
+own c = header_for _ _ _ c.of.ensures.board c.of.ensures.player
 
 pub returns : goal.returns
-unfolding header_written
 returns c =
     let a = c.args in
-    front_wrote (board_of a.board) a.player a.arrays.now a.seeds.now a.words.now c.requires.4 c.put_header-next.ensures c.put_grid_rows-next.ensures c.put.ensures
+    let d = a.dealing.now in
+    let p = c.put_header-next in
+    let head = subst (λ (bs : List ℕ). Wrote a.at bs p.result a.out.now p.new.out) (own (goal.at.returns c).After-of) p.ensures in
+    front_wrote (board_of d.board) a.player d.arrays.now d.seeds.now d.words.now c.requires.1 head c.put_grid_rows-next.ensures c.put.ensures
+
+pub put_header-next-requires : goal.put_header-next-requires
+put_header-next-requires c =
+    let at = goal.at.put_header-next-requires c in (
+      ap board_refusal c.of.ensures.board ∙ c.args.dealing.now.board.accepted,
+      omega (arith, c.of.ensures.player, c.requires.0),
+      omega (arith, long at.Start, ap length (own at.After-of)),
+    )
+
+pub put_grid_rows-next-requires : goal.put_grid_rows-next-requires
+put_grid_rows-next-requires c =
+    let at = goal.at.put_grid_rows-next-requires c in
+    let p = c.put_header-next in
+    omega (arith, long at.Start, ap length (own at.After-of), p.ensures.next_is, p.auto.out)
+
+pub put-requires : goal.put-requires
+put-requires c =
+    let at = goal.at.put-requires c in
+    let p = c.put_header-next in
+    let q = c.put_grid_rows-next in
+    omega (arith, long at.Start, ap length (own at.After-of), p.ensures.next_is, p.auto.out, q.ensures.next_is, q.auto.out)

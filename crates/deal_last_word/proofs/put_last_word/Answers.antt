@@ -9,14 +9,9 @@ use Rattle.grid.specs.Code.{board_of}
 use Rattle.grid.proofs.Facts.{board_in}
 use Rattle.writer.specs.Written.{Wrote, written}
 use borrow.Rule.Slice.PartMut.{put_mid, Post-is}
-use borrow.Author.Rules.{rules}
 use Rattle.deal_last_word.specs.LastWord.{dealt_word}
 use Rattle.seed_rows.specs.Rows.{rule}
 use Rattle.deal_last_word.proofs.LastWord.{dealt_word_long}
-use Rattle.deal_last_word.proofs.put_last_word.Reads as reads
-use Rattle.deal_last_word.proofs.put_last_word.Lts as lts
-use Rattle.deal_last_word.proofs.last_word.Reads as last-word-reads
-use Rattle.grid.proofs.board.Board.row_length.Reads as row-length-reads
 use Rattle.deal_last_word.proofs.put_last_word.Goals as goal
 
 -- what is made in its place is written there
@@ -34,8 +29,6 @@ unfolding board
 returns c =
     let a = c.args in
     let b = board_of a.board in
-    let value = a.value.now in
-    let seeds = a.seeds.now in
-    let words = a.words.now in
-    let long = dealt_word_long b (board_in b c.requires.0) a.point value seeds words c.requires.1 c.requires.2 (omega (arith, c.requires.4)) in
-    wrote_part a.at c.row_length.result (dealt_word b (rule b) a.point value seeds words) _ a.out.now (omega (arith, long, c.row_length.ensures)) c.last_word.ensures
+    let long = dealt_word_long b (board_in b a.board.accepted) a.point a.value.now a.seeds.now a.words.now c.requires.0 c.requires.1 (omega (arith, c.requires.3)) in
+    wrote_part a.at c.row_length.result (dealt_word b (rule b) a.point a.value.now a.seeds.now a.words.now) _ a.out.now
+    (omega (arith, long, c.row_length.ensures)) c.last_word.ensures

@@ -1,12 +1,7 @@
 -- `deal_last_word::put_piece` meets its contract. Assumes nothing.
 use native.Mathlib.Omega.{arith}
 use lib.ListN.{length}
-use borrow.Author.Rules.{rules}
 use Rattle.deal_last_word.proofs.LastWord.{piece_put}
-use Rattle.deal_last_word.proofs.put_piece.Reads as reads
-use Rattle.deal_last_word.proofs.put_piece.Lts as lts
-use Rattle.writer.proofs.clear.Reads as clear_reads
-use Rattle.writer.proofs.put.Reads as put_reads
 use Rattle.deal_last_word.proofs.put_piece.Goals as goal
 
 pub returns : goal.returns

@@ -1,7 +1,6 @@
 -- `digits::put_in_five_places` meets its contract: five bytes, each the digit or the space of its place. Assumes nothing.
 use native.Mathlib.Omega.{arith}
 use Rattle.digits.proofs.Laws.{wrote_five}
-use borrow.Author.Rules.{rules}
 use Rattle.digits.proofs.put_in_five_places.Goals as goal
 
 pub returns : goal.returns

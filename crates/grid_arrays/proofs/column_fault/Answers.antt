@@ -3,7 +3,6 @@
 use mathlib.Core.Path.{◌≡◌, sym, ◌∙◌}
 use Prim.Native.Nat.{◌*◌, ◌%◌, ◌^◌, ◌<◌}
 use native.Mathlib.Omega.{arith}
-use borrow.Author.Rules.{rules}
 use borrow.Author.Tests.{eq-eqb, ne_eqb}
 use Rattle.grid.specs.Grid.{board, bit}
 use Rattle.grid.proofs.Facts.{board_in}
@@ -14,11 +13,11 @@ use Rattle.grid_arrays.proofs.column_fault.Goals.{Else-past-column, Start}
 
 pub overflow_shr-stood : goal.overflow_shr-stood
 unfolding board
-overflow_shr-stood c = search (rules, shift_fits)
+overflow_shr-stood c = shift_fits _ _ c.args.board.accepted (omega arith)
 
 few : (c : Start) → c.args.board.players < 32
 unfolding board
-few c = omega (arith, (board_in _ c.requires).players_most)
+few c = omega (arith, (board_in _ c.args.board.accepted).players_most)
 
 -- one past the last column, as the code shifts it
 past_is : (c : Start) → 1 * 2 ^ c.args.board.players % 2 ^ 32 ≡ 2 ^ c.args.board.players

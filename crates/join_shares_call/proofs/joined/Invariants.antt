@@ -1,16 +1,8 @@
--- `join_keys_call::shares::joined` meets its contract. The loop's invariant: the shares from place `end` on are joined. Assumes nothing.
-use mathlib.Core.Path.{◌≡◌, refl, sym, ap, ◌∙◌}
-use Prim.Native.Nat.{ℕ, ◌*◌, ◌-◌, ◌≤◌, ◌<◌}
-use native.Mathlib.Omega.{arith}
-use lib.ListN.{length, drop}
-use borrow.Author.Rules.{rules}
+-- `join_shares_call::joined` meets its contract. The loop goes down from the last share; its invariant: the shares from this one on are joined.
+-- Assumes nothing.
+use Rattle.std.proofs.Common.{◌≡◌, ◌*◌, ◌-◌, drop}
 use Rattle.call_answers.specs.Answers.{joined_shares}
-use Rattle.join_shares_call.proofs.Joining.{inside, part_whole, joined_none, share_more, joined_all}
 use Rattle.join_shares_call.proofs.joined.Given as goal
 
 abbrev pub invariant-loop-player : goal.invariant-loop-player
-invariant-loop-player l =
-    (l.player ≤ l.players) × (l.end ≡ l.player * l.share) × (length l.out ≡ l.share) × (l.out ≡ joined_shares (l.players - l.player) l.share (drop l.end l.shares)) × (length l.shares ≡ l.players * l.share)
-
-abbrev pub decreases-loop-player : goal.decreases-loop-player
-decreases-loop-player l = l.player
+invariant-loop-player l = l.out ≡ joined_shares (l.players - l.player) l.share (drop (l.player * l.share) l.shares)

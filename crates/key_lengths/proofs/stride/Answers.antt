@@ -3,17 +3,16 @@ use native.Mathlib.Omega.{arith}
 use Rattle.grid.specs.Code.{board_of}
 use Rattle.keys.specs.Keys.{stride}
 use Rattle.key_lengths.proofs.Lengths.{columns_in, mark_bytes_in}
-use borrow.Author.Rules.{rules}
 use Rattle.key_lengths.proofs.stride.Goals as goal
 
 pub overflow_mul-result : goal.overflow_mul-result
 overflow_mul-result c =
-    let size = columns_in (board_of c.args.board) c.requires in omega arith
+    let size = columns_in (board_of c.args.board) c.args.board.accepted in omega arith
 
 pub overflow_add-result : goal.overflow_add-result
 overflow_add-result c =
-    let size = columns_in (board_of c.args.board) c.requires in
-    let marks = mark_bytes_in (board_of c.args.board) c.requires in omega arith
+    let size = columns_in (board_of c.args.board) c.args.board.accepted in
+    let marks = mark_bytes_in (board_of c.args.board) c.args.board.accepted in omega arith
 
 pub returns : goal.returns
 unfolding stride

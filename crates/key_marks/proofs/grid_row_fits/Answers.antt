@@ -3,7 +3,6 @@ use native.Mathlib.Omega.{arith}
 use Rattle.grid.specs.Code.{board_of}
 use Rattle.key_lengths.proofs.Lengths.{mark_bytes_in}
 use Rattle.keys.proofs.Counting.{row_unfit, row_fit}
-use borrow.Author.Rules.{rules}
 use Rattle.key_marks.proofs.grid_row_fits.Goals as goal
 
 pub returns : goal.returns
@@ -17,4 +16,4 @@ returns-then-marks-columns c =
 
 pub overflow_mul-bits : goal.overflow_mul-bits
 overflow_mul-bits c =
-    let size = mark_bytes_in (board_of c.args.board) c.requires in omega arith
+    let size = mark_bytes_in (board_of c.args.board) c.args.board.accepted in omega arith

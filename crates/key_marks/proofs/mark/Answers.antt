@@ -3,7 +3,6 @@ use mathlib.Core.Path.{ap}
 use Prim.Native.Nat.{ℕ, ◌%◌}
 use Rattle.grid.specs.Grid.{bit}
 use Rattle.keys.specs.Held.{marked}
-use borrow.Author.Rules.{rules}
 use Rattle.key_marks.proofs.mark.Goals as goal
 
 pub returns : goal.returns

@@ -4,15 +4,14 @@ use native.Mathlib.Omega.{arith}
 use Rattle.keys.specs.Held.{seed_from}
 use Rattle.key_lengths.proofs.Lengths.{columns_in, mark_bytes_in}
 use Rattle.keys.proofs.Counting.{count_short}
-use borrow.Author.Rules.{rules}
 use Rattle.key_marks.proofs.seed_from.Goals as goal
 
 pub overflow_mul-result : goal.overflow_mul-result
-overflow_mul-result c = omega (arith, count_short _ _ c.marks_between.ensures, columns_in _ c.requires.0)
+overflow_mul-result c = omega (arith, count_short _ _ c.marks_between.ensures, columns_in _ c.args.board.accepted)
 
 pub overflow_add-result : goal.overflow_add-result
 overflow_add-result c =
-    omega (arith, count_short _ _ c.marks_between.ensures, columns_in _ c.requires.0, mark_bytes_in _ c.requires.0)
+    omega (arith, count_short _ _ c.marks_between.ensures, columns_in _ c.args.board.accepted, mark_bytes_in _ c.args.board.accepted)
 
 pub returns : goal.returns
 unfolding seed_from

@@ -2,8 +2,6 @@
 use native.Mathlib.Nat.{mul-le-mul}
 use native.Mathlib.Omega.{arith}
 use Prim.Native.Nat.{◌+◌, ◌*◌, ◌≤◌}
-use borrow.Author.Rules.{rules}
-use Rattle.page.specs.Page.{page_lines}
 use Rattle.page.proofs.Laws.{lines_few, page_length_is}
 use Rattle.page.proofs.page_length.Goals as goal
 

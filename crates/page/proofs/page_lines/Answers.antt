@@ -1,6 +1,5 @@
 -- `page::page_lines` meets its contract. Assumes nothing.
 use native.Mathlib.Omega.{arith}
-use borrow.Author.Rules.{rules}
 use Rattle.page.specs.Page.{page_lines}
 use Rattle.page.proofs.page_lines.Goals as goal
 

@@ -3,7 +3,6 @@ use mathlib.Core.List.{[], ◌∷◌}
 use native.Mathlib.Omega.{arith}
 use Rattle.writer.proofs.Laws.{wrote_then}
 use Rattle.digits.specs.Digits.{hex}
-use borrow.Author.Rules.{rules}
 use Rattle.page.proofs.put_cell.Goals as goal
 
 pub returns : goal.returns

@@ -6,14 +6,13 @@ use Rattle.grid.specs.Code.{board_of}
 use Rattle.grid.proofs.Facts.{board_in}
 use Rattle.grid.proofs.Sizes.{arrays_most, words_most}
 use Rattle.program_deal.specs.Dealing.{asked_bytes}
-use borrow.Author.Rules.{rules}
 use Rattle.program_deal.proofs.asked_bytes.Goals as goal
 use Rattle.program_deal.proofs.asked_bytes.Goals.{Start}
 
 -- the lengths are small
 small : (s : Start) → let b = s.args.board in (b.value_bytes ≤ 16) × (arrays_long (board_of b) ≤ 8192) × (words_long (board_of b) ≤ 131072)
 unfolding board
-small s = let f = board_in _ s.requires in (f.value_most, arrays_most _ f, words_most _ f)
+small s = let f = board_in _ s.args.board.accepted in (f.value_most, arrays_most _ f, words_most _ f)
 
 pub overflow_add-result : goal.overflow_add-result
 overflow_add-result c = omega (arith, c.arrays_length.ensures, small (goal.at.overflow_add-result c).Start)

@@ -1,53 +1,62 @@
 -- `program_deal::deal_parts` meets its contract: the parts are cut one behind another. Assumes nothing.
-use mathlib.Core.Path.{sym, ap}
-use Prim.Native.Nat.{ℕ, ◌+◌, ◌-◌, ◌≤◌}
+use mathlib.Core.Path.{◌≡◌, refl}
 use native.Mathlib.Omega.{arith}
-use lib.ListN.{length}
-use lib.Seq.{length-take-le}
-use Rattle.grid.specs.Grid.{board, arrays_long, seeds_long}
+use Rattle.std.proofs.Common.{Ok, Err, rules}
+use Rattle.refusal.specs.Refusing.{answer_number}
+use Rattle.grid.specs.Grid.{board}
 use Rattle.grid.specs.Code.{board_of}
-use Rattle.grid.proofs.Facts.{board_in}
-use Rattle.grid.proofs.Sizes.{arrays_most}
-use Rattle.program_deal.proofs.Dealings.{parts_within, deal_cut}
-use borrow.Author.Rules.{rules}
+use Rattle.dealing.specs.Refused.{refused_number}
+use Rattle.keys.specs.Keys.{lent}
+use Rattle.program_deal.specs.Dealing.{lent_in}
+use Rattle.program_deal.proofs.Dealings.{parts_within, cut, deal_cut}
 use Rattle.program_deal.proofs.deal_parts.Goals as goal
-use Rattle.program_deal.proofs.deal_parts.Goals.{Start}
+use Rattle.program_deal.proofs.deal_parts.Goals.{After-deal}
 
--- the parts stand inside, and their lengths are small
-within : (s : Start) → let b = s.args.board in b.value_bytes + arrays_long (board_of b) + seeds_long (board_of b) ≤ length s.args.rest.now
+pub split_at-requires : goal.split_at-requires
 unfolding board
-within s = parts_within (board_of s.args.board) s.args.rest.now s.requires.1
+split_at-requires c = omega (arith, parts_within (board_of c.args.board) c.args.rest.now c.requires)
 
-small : (s : Start) → let b = s.args.board in (b.value_bytes ≤ 16) × (arrays_long (board_of b) ≤ 8192)
+pub split_at-requires-2 : goal.split_at-requires-2
 unfolding board
-small s = let f = board_in _ s.requires.0 in (f.value_most, arrays_most _ f)
+split_at-requires-2 c =
+    omega (arith, parts_within (board_of c.args.board) c.args.rest.now c.requires, c.arrays_length.ensures, c.split_at.ensures.back_len)
 
-pub overflow_add-seeds : goal.overflow_add-seeds
-overflow_add-seeds c = omega (arith, c.arrays_length.ensures, small (goal.at.overflow_add-seeds c).Start)
+pub split_at-requires-3 : goal.split_at-requires-3
+unfolding board
+split_at-requires-3 c =
+    omega (
+      arith,
+      parts_within (board_of c.args.board) c.args.rest.now c.requires,
+      c.arrays_length.ensures,
+      c.seeds_length.ensures,
+      c.split_at.ensures.back_len,
+      c.split_at-2.ensures.back_len,
+    )
 
-pub overflow_add-words : goal.overflow_add-words
-overflow_add-words c = omega (arith, c.seeds_length.ensures, c.arrays_length.ensures, small (goal.at.overflow_add-words c).Start)
-
-pub slice_bounds-deal-end : goal.slice_bounds-deal-end
-slice_bounds-deal-end c = sym (length-take-le _ c.args.rest.now (omega (arith, within (goal.at.slice_bounds-deal-end c).Start)))
-
-pub slice_bounds-deal-end-2 : goal.slice_bounds-deal-end-2
-slice_bounds-deal-end-2 c = omega (arith, c.arrays_length.ensures, within (goal.at.slice_bounds-deal-end-2 c).Start)
-
-pub slice_bounds-deal-end-3 : goal.slice_bounds-deal-end-3
-slice_bounds-deal-end-3 c = omega (arith, c.seeds_length.ensures, c.arrays_length.ensures, within (goal.at.slice_bounds-deal-end-3 c).Start)
-
-pub slice_bounds-deal-count-3 : goal.slice_bounds-deal-count-3
-slice_bounds-deal-count-3 c = omega (arith, c.seeds_length.ensures, c.arrays_length.ensures, within (goal.at.slice_bounds-deal-count-3 c).Start)
-
-pub slice_bounds-deal-start-3 : goal.slice_bounds-deal-start-3
-slice_bounds-deal-start-3 c = omega (arith, c.seeds_length.ensures, c.arrays_length.ensures, within (goal.at.slice_bounds-deal-start-3 c).Start)
+-- the parts that Deal is given are those that stand in the input
+abbrev parts : (c : After-deal) →
+    let a = c.args in
+    lent a.point c.split_at.result.0.now c.split_at-2.result.0.now c.split_at-3.result.0.now c.split_at-3.result.1.now
+    ≡ lent_in (board_of a.board) a.point a.rest.now
+unfolding board
+parts c =
+    let one = c.split_at.ensures in
+    let two = c.split_at-2.ensures in
+    let three = c.split_at-3.ensures in
+    cut (board_of c.args.board) c.args.point c.arrays_length.result c.seeds_length.result c.args.rest.now c.arrays_length.ensures c.seeds_length.ensures
+    one.front one.back two.front two.back three.front three.back
 
 pub returns : goal.returns
 unfolding board
 returns c =
     let a = c.args in
-    deal_cut (board_of a.board) a.point _ _ a.rest.now _ _ a.keys.now _
-    (ap (λ (n : ℕ). a.board.value_bytes + n) c.arrays_length.ensures)
-    (ap (λ (n : ℕ). a.board.value_bytes + c.arrays_length.result + n) c.seeds_length.ensures)
-    c.deal-answer.ensures c.deal_number.ensures
+    deal_cut (board_of a.board) a.point a.rest.now _ _ _ _ (Ok c.in_ok-deal.field-0) _ a.keys.now c.deal.new.keys (parts (goal.at.returns c).After-deal)
+    c.in_ok-deal.ensures refl
+
+pub returns-in_err-deal : goal.returns-in_err-deal
+unfolding board
+returns-in_err-deal c =
+    let a = c.args in
+    let number : answer_number c.from_residual.result ≡ refused_number c.in_err-deal.field-0.0 = search rules in
+    deal_cut (board_of a.board) a.point a.rest.now _ _ _ _ (Err c.in_err-deal.field-0.0) _ a.keys.now c.deal.new.keys
+    (parts (goal.at.returns-in_err-deal c).After-deal) c.in_err-deal.ensures number

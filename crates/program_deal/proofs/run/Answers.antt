@@ -3,15 +3,11 @@ use mathlib.Core.Path.{refl, sym}
 use native.Mathlib.Omega.{arith}
 use lib.Seq.{length-take-le}
 use Rattle.program_deal.proofs.Dealings.{deals_read, deals_none}
-use borrow.Author.Rules.{rules}
 use Rattle.program_deal.proofs.run.Goals as goal
 
 pub returns-then-read-count : goal.returns-then-read-count
 returns-then-read-count c =
     let a = c.args in deals_none a.input.now a.count _ a.output.now _ (omega arith) refl refl
-
-pub slice_bounds-dealing_program-end : goal.slice_bounds-dealing_program-end
-slice_bounds-dealing_program-end c = sym (length-take-le _ _ (omega arith))
 
 pub returns : goal.returns
 returns c =

@@ -3,7 +3,6 @@ use mathlib.Core.Path.{refl, sym}
 use native.Mathlib.Omega.{arith}
 use lib.Seq.{length-take-le}
 use Rattle.program_join.proofs.Joinings.{joins_read, joins_none}
-use borrow.Author.Rules.{rules}
 use Rattle.program_join.proofs.run.Goals as goal
 
 pub returns-then-read-count : goal.returns-then-read-count

@@ -3,7 +3,6 @@ use native.Mathlib.Omega.{arith}
 use Rattle.text.specs.Text.{refused_line}
 use Rattle.text.proofs.Laws.{refused_most}
 use Rattle.program_output.proofs.Writing.{writes_wrote}
-use borrow.Author.Rules.{rules}
 use Rattle.program_output.proofs.put_refusal.Goals as goal
 
 pub put_refused_line-requires : goal.put_refused_line-requires

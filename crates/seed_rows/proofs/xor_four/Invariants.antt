@@ -1,18 +1,13 @@
 -- `seed_rows::xor_four` meets its contract. The loop's invariant: into the bytes before `done` the rows' are XORed, the rest is as it was. Assumes nothing.
-use mathlib.Core.Path.{◌≡◌, ◌∙◌}
 use Prim.Native.Nat.{◌-◌}
-use native.Mathlib.Omega.{arith}
 use lib.ListN.{length}
-use borrow.Rule.Slice.PartMut.{mid_len}
 use Rattle.xor.specs.Xor.{xors}
-use Rattle.xor.proofs.Walks.{Gone, none_gone, all_gone}
-use Rattle.seed_row.proofs.Walks.{xored_long, next_xored}
+use Rattle.xor.proofs.Walks.{Gone}
 use Rattle.seed_rows.specs.Rows.{rows_joined}
-use Rattle.seed_rows.proofs.Joined.{of_rows}
 use Rattle.seed_rows.proofs.xor_four.Given as goal
 
 abbrev pub invariant-loop-done : goal.invariant-loop-done
-invariant-loop-done l = (length l.made ≡ 256) × Gone (xors l.initial.out (rows_joined 4 l.start (length l.initial.out) l.seeds)) l.initial.out l.out l.done
+invariant-loop-done l = Gone (xors l.initial.out (rows_joined 4 l.start (length l.initial.out) l.seeds)) l.initial.out l.out l.done
 
 abbrev pub decreases-loop-done : goal.decreases-loop-done
 decreases-loop-done l = length l.initial.out - l.done

@@ -1,9 +1,7 @@
 -- `text::put_board_line` meets its contract: three words with their numbers, and the line feed. Assumes nothing.
-use Prim.Native.Nat.{◌-◌}
 use native.Mathlib.Omega.{arith}
 use Rattle.text.specs.Text.{named, board_line, text_players, text_squares, text_width, line_feed}
 use Rattle.text.proofs.Laws.{board_length, wrote_four}
-use borrow.Author.Rules.{rules}
 use Rattle.text.proofs.put_board_line.Goals as goal
 
 pub put_named-next-requires : goal.put_named-next-requires

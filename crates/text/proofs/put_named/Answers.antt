@@ -1,11 +1,9 @@
 -- `text::put_named` meets its contract: the word, then its number. Assumes nothing.
-use Prim.Native.Nat.{◌-◌}
 use native.Mathlib.Omega.{arith}
 use Rattle.digits.specs.Digits.{decimal}
 use Rattle.text.specs.Text.{named}
 use Rattle.writer.proofs.Laws.{wrote_then}
 use Rattle.text.proofs.Laws.{named_length}
-use borrow.Author.Rules.{rules}
 use Rattle.text.proofs.put_named.Goals as goal
 
 pub put-next-requires : goal.put-next-requires

@@ -1,12 +1,10 @@
 -- `text::put_position_line` meets its contract: the number, a space, the value, and the line feed. Assumes nothing.
 use mathlib.Core.List.{[], ◌∷◌}
-use Prim.Native.Nat.{◌-◌}
 use native.Mathlib.Omega.{arith}
 use Rattle.digits.specs.Digits.{decimal, hex}
 use Rattle.digits.proofs.Laws.{hex_long}
 use Rattle.text.specs.Text.{position_line, line_feed}
 use Rattle.text.proofs.Laws.{line_length, wrote_four}
-use borrow.Author.Rules.{rules}
 use Rattle.text.proofs.put_position_line.Goals as goal
 
 pub put_decimal-next-requires : goal.put_decimal-next-requires

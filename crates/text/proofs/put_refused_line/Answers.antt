@@ -1,10 +1,8 @@
 -- `text::put_refused_line` meets its contract: the word with its number, and the line feed. Assumes nothing.
-use Prim.Native.Nat.{◌-◌}
 use native.Mathlib.Omega.{arith}
 use Rattle.text.specs.Text.{named, refused_line, text_refused, line_feed}
 use Rattle.writer.proofs.Laws.{wrote_then}
 use Rattle.text.proofs.Laws.{refused_length}
-use borrow.Author.Rules.{rules}
 use Rattle.text.proofs.put_refused_line.Goals as goal
 
 pub put_named-next-requires : goal.put_named-next-requires

@@ -1,10 +1,8 @@
 -- `text::put_table` meets its contract: the line of the board, then those of the positions. Assumes nothing.
-use Prim.Native.Nat.{◌-◌}
 use native.Mathlib.Omega.{arith}
 use Rattle.text.specs.Text.{board_line, position_lines, table_text}
 use Rattle.writer.proofs.Laws.{wrote_then}
 use Rattle.text.proofs.Laws.{table_text_length}
-use borrow.Author.Rules.{rules}
 use Rattle.text.proofs.put_table.Goals as goal
 
 pub put_board_line-next-requires : goal.put_board_line-next-requires

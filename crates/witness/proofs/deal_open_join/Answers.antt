@@ -1,36 +1,52 @@
 -- `witness::deal_open_join` meets its contract, by the contracts of Deal, Key length and Open all. Assumes nothing.
-use mathlib.Core.Path.{sym, ◌∙◌}
+use mathlib.Core.Path.{◌≡◌, refl, sym, ◌∙◌}
 use Prim.Native.Nat.{◌*◌, ◌≤◌}
-use native.Mathlib.Omega.{arith}
+use borrow.Author.Rules.{rules}
 use lib.ListN.{length}
 use lib.Seq.{length-take-le}
-use borrow.Author.Rules.{rules}
 use Rattle.xor.proofs.Laws.{good_by_entries}
-use Rattle.call_answers.proofs.Telling.{says_number}
-use Rattle.witness.proofs.Showing.{product_fits, lent_fits, Asked, deal_refused, rooms, each_opens, piece_shown}
+use Rattle.refusal.specs.Refusing.{answer_number}
+use Rattle.refusal.proofs.Numbers.{number_some}
+use Rattle.dealing.specs.Refused.{refused_number}
+use Rattle.call_answers.proofs.Telling.{says_refused, says_dealt}
+use Rattle.witness.proofs.Showing.{lent_fits, Asked, deal_refused, rooms, length_there, each_opens, piece_shown}
 use Rattle.witness.proofs.deal_open_join.Goals as goal
-use Rattle.witness.proofs.deal_open_join.Goals.{After-deal_number-refusal, Else-refusal-ne0}
+use Rattle.witness.proofs.deal_open_join.Goals.{After-from_residual, In_ok-deal}
 
--- Deal as it was asked
-abbrev asked : (c : After-deal_number-refusal) →
+-- the refusal that is handed on has the number of Deal's
+number : (c : After-from_residual) → answer_number c.from_residual.result ≡ refused_number c.in_err-deal.field-0.0
+number c = search rules
+
+-- Deal as it was asked, where it was refused and where it wasn't
+abbrev refused : (c : After-from_residual) →
     let args = c.args in
     Asked args.players args.positions args.width args.value_bytes args.point args.value.now args.arrays.now args.seeds.now
-    args.words.now args.keys.now args.table.now args.joined.now c.deal_number-refusal.result
-asked c =
+    args.words.now args.keys.now args.table.now args.joined.now (answer_number c.from_residual.result)
+refused c =
     record {
-      value_bytes = good_by_entries _ (λ i _. (c.shared_slice_known-1.given i).fits);
-      seeds_bytes = good_by_entries _ (λ i _. (c.shared_slice_known-3-1.given i).fits);
-      words_bytes = good_by_entries _ (λ i _. (c.shared_slice_known-4-1.given i).fits);
+      value_bytes = good_by_entries _ (λ i _. (c.type_inv.value i).fits);
+      seeds_bytes = good_by_entries _ (λ i _. (c.type_inv.seeds i).fits);
+      words_bytes = good_by_entries _ (λ i _. (c.type_inv.words i).fits);
       room = _;
       given = c.keys_lent-room.ensures;
       part = _;
-      says = says_number _ _ _ _ _ _ _ _ _ _ _ _ _ c.deal-answer.ensures c.deal_number-refusal.ensures;
+      says = says_refused _ _ _ _ _ _ _ _ _ _ _ _ _ c.in_err-deal.ensures (number c);
     }
 
-pub overflow_mul-size : goal.overflow_mul-size
-overflow_mul-size c =
-    let fits = c.ranges in
-    record { fits = product_fits _ _ fits.positions.fits fits.value_bytes.fits }
+abbrev dealt : (c : In_ok-deal) →
+    let args = c.args in
+    Asked args.players args.positions args.width args.value_bytes args.point args.value.now args.arrays.now args.seeds.now
+    args.words.now args.keys.now args.table.now args.joined.now 0
+dealt c =
+    record {
+      value_bytes = good_by_entries _ (λ i _. (c.type_inv.value i).fits);
+      seeds_bytes = good_by_entries _ (λ i _. (c.type_inv.seeds i).fits);
+      words_bytes = good_by_entries _ (λ i _. (c.type_inv.words i).fits);
+      room = _;
+      given = c.keys_lent-room.ensures;
+      part = _;
+      says = says_dealt _ _ _ _ _ _ _ _ _ _ _ _ c.in_ok-deal.ensures;
+    }
 
 pub slice_bounds-deal-end : goal.slice_bounds-deal-end
 slice_bounds-deal-end c = lent_fits _ _ _ _ _ c.keys_lent-room.ensures
@@ -38,38 +54,43 @@ slice_bounds-deal-end c = lent_fits _ _ _ _ _ c.keys_lent-room.ensures
 pub slice_bounds-deal-end-2 : goal.slice_bounds-deal-end-2
 slice_bounds-deal-end-2 c = sym (length-take-le _ _ (lent_fits _ _ _ _ _ c.keys_lent-room.ensures))
 
-pub returns-then-refusal-ne0 : goal.returns-then-refusal-ne0
-returns-then-refusal-ne0 c = deal_refused (asked (goal.at.returns-then-refusal-ne0 c).After-deal_number-refusal) c.if-refusal-ne0.true
+pub returns-in_err-deal : goal.returns-in_err-deal
+returns-in_err-deal c = deal_refused (refused (goal.at.returns-in_err-deal c).After-from_residual) (search (rules, number_some))
+
+-- a board that Deal accepts has a length
+pub returns-in_err-key_bytes : goal.returns-in_err-key_bytes
+returns-in_err-key_bytes c =
+    absurd (length_there (dealt (goal.at.returns-in_err-key_bytes c).In_ok-deal) refl _ c.in_err-key_bytes.ensures)
 
 -- where Deal did not refuse, both tables have room
-room : (c : Else-refusal-ne0) → let args = c.args in
+room : (c : In_ok-deal) → let args = c.args in
     (args.positions * args.value_bytes ≤ length args.table.now) × (args.positions * args.value_bytes ≤ length args.joined.now)
-room c = let fits = rooms (asked (goal.at.Else-refusal-ne0 c).After-deal_number-refusal) c.if-refusal-ne0.false in (fits.1, fits.2)
+room c = let fits = rooms (dealt c) refl in (fits.1, fits.2)
 
 pub slice_bounds-join_tables-end : goal.slice_bounds-join_tables-end
-slice_bounds-join_tables-end c = omega (arith, room (goal.at.slice_bounds-join_tables-end c).Else-refusal-ne0)
+slice_bounds-join_tables-end c = (room (goal.at.slice_bounds-join_tables-end c).In_ok-deal).0
 
 pub slice_bounds-join_tables-end-2 : goal.slice_bounds-join_tables-end-2
-slice_bounds-join_tables-end-2 c = sym (length-take-le _ _ (omega (arith, room (goal.at.slice_bounds-join_tables-end-2 c).Else-refusal-ne0)))
+slice_bounds-join_tables-end-2 c = sym (length-take-le _ _ (room (goal.at.slice_bounds-join_tables-end-2 c).In_ok-deal).0)
 
 pub slice_bounds-join_tables-end-3 : goal.slice_bounds-join_tables-end-3
-slice_bounds-join_tables-end-3 c = omega (arith, room (goal.at.slice_bounds-join_tables-end-3 c).Else-refusal-ne0)
+slice_bounds-join_tables-end-3 c = (room (goal.at.slice_bounds-join_tables-end-3 c).In_ok-deal).1
 
 pub slice_bounds-join_tables-end-4 : goal.slice_bounds-join_tables-end-4
-slice_bounds-join_tables-end-4 c = sym (length-take-le _ _ (omega (arith, room (goal.at.slice_bounds-join_tables-end-4 c).Else-refusal-ne0)))
+slice_bounds-join_tables-end-4 c = sym (length-take-le _ _ (room (goal.at.slice_bounds-join_tables-end-4 c).In_ok-deal).1)
 
 pub join_tables-requires : goal.join_tables-requires
 join_tables-requires c =
-    let fits = room (goal.at.join_tables-requires c).Else-refusal-ne0 in
-    let opened = each_opens (asked (goal.at.join_tables-requires c).After-deal_number-refusal) c.if-refusal-ne0.false _ c.key_length-long.ensures _ _
-    (length-take-le _ _ (omega (arith, fits))) (length-take-le _ _ (omega (arith, fits))) in
+    let at = (goal.at.join_tables-requires c).In_ok-deal in
+    let fits = room at in
+    let opened = each_opens (dealt at) refl _ c.in_ok-key_bytes.ensures _ _ (length-take-le _ _ fits.0) (length-take-le _ _ fits.1) in
     record { opens_each = opened.0; joined_len = opened.1 }
 
 pub returns : goal.returns
 returns c =
     let made = c.join_tables in
-    let fits = room (goal.at.returns c).Else-refusal-ne0 in
-    piece_shown (asked (goal.at.returns c).After-deal_number-refusal) c.if-refusal-ne0.false _ c.key_length-long.ensures _ _ _
-    (length-take-le _ _ (omega (arith, fits)))
-    (made.auto.table ∙ (length-take-le _ _ (omega (arith, fits)))) (made.auto.joined ∙ (length-take-le _ _ (omega (arith, fits))))
+    let at = (goal.at.returns c).In_ok-deal in
+    let fits = room at in
+    let table = length-take-le _ _ fits.0 in
+    piece_shown (dealt at) refl _ c.in_ok-key_bytes.ensures _ _ _ table (made.auto.table ∙ table) (made.auto.joined ∙ length-take-le _ _ fits.1)
     made.ensures.joined_after made.ensures.table_after

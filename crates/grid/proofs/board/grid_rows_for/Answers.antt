@@ -1,6 +1,5 @@
 -- `board::grid_rows_for` meets its contract: it is the quotient that the contract names. Assumes nothing.
 use mathlib.Core.Path.{refl}
-use borrow.Author.Rules.{rules}
 use Rattle.grid.proofs.board.grid_rows_for.Goals as goal
 
 pub returns : goal.returns

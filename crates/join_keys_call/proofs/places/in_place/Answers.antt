@@ -1,10 +1,21 @@
 -- `join_keys_call::places::in_place` meets its contract. Assumes nothing.
-use Rattle.join_keys_call.proofs.InTurn.{both_same, first_other}
-use borrow.Author.Rules.{rules}
+use mathlib.Core.Path.{◌≡◌, refl, ◌∙◌}
+use mathlib.Core.Bool.{Bool, true, false, ◌&&◌}
+use lib.Dec.{eqb}
+use Rattle.grid.specs.Grid.{board}
+use Rattle.join_keys_call.specs.JoinKeys.{same_board}
 use Rattle.join_keys_call.proofs.places.in_place.Goals as goal
 
-pub returns-then-same_board : goal.returns-then-same_board
-returns-then-same_board c = both_same _ _ _ c.same_board.ensures c.if-same_board.true
+-- four tests one behind another are two pairs
+in_pairs : (p n rest place : Bool) → ((p && (n && rest)) && place) ≡ (((p && n) && rest) && place)
+in_pairs true n rest place = refl
+in_pairs false n rest place = refl
 
-pub returns-else-same_board : goal.returns-else-same_board
-returns-else-same_board c = first_other _ _ _ c.same_board.ensures c.if-same_board.false
+pub returns : goal.returns
+unfolding same_board board
+returns c =
+    let heading = c.args.heading in
+    let own = heading.board in
+    let first = c.args.board in
+    let rest = eqb own.width first.width && eqb own.value_bytes first.value_bytes in
+    c.eq.ensures ∙ in_pairs (eqb own.players first.players) (eqb own.positions first.positions) rest (eqb heading.player c.args.place)

@@ -1,21 +1,26 @@
--- `key_check::held::held_seed` meets its contract: where the place is not 0, the 32 bytes there are the seed. Assumes nothing.
-use mathlib.Core.Path.{sym, ◌∙◌}
+-- `key_check::held::held_seed` meets its contract: the 32 bytes at the place are the seed. Assumes nothing.
+use mathlib.Core.Bool.{false≢true}
+use mathlib.Core.Path.{◌≡◌, sym, ◌∙◌}
 use Prim.Native.Nat.{◌+◌, ◌≤◌}
 use native.Mathlib.Nat.{add-sub_cancel_left}
 use native.Mathlib.Omega.{arith}
 use lib.ListN.{length}
 use Rattle.xor.proofs.Laws.{good_by_entries}
-use Rattle.keys.proofs.Holding.{seed_none, place_inside, seed_there}
-use borrow.Author.Rules.{rules}
+use Rattle.keys.specs.Held.{held_seed, held_seed_place}
+use Rattle.keys.proofs.Holding.{place_zero, place_inside, seed_there}
 use Rattle.key_check.proofs.held.held_seed.Goals as goal
-use Rattle.key_check.proofs.held.held_seed.Goals.{Else-from-eq0}
+use Rattle.key_check.proofs.held.held_seed.Goals.{In-Some}
 
-room : (c : Else-from-eq0) → c.held_seed_place-from.result + 32 ≤ length c.args.key.now
-room c =
-    let e = c.held_seed_place-from.ensures in rw e (place_inside _ _ _ (λ z. c.if-from-eq0.false (e ∙ z)))
+-- no seed stands at 0
+behind : (c : In-Some) → held_seed_place c.args.key.now c.args.grid_row c.args.column ≡ 0 → ⊥
+behind c zero = false≢true (sym (place_zero _ _ _ zero) ∙ sym c.in-Some.ensures.held)
 
-pub returns-then-from-eq0 : goal.returns-then-from-eq0
-returns-then-from-eq0 c = seed_none _ _ _ (sym c.held_seed_place-from.ensures ∙ c.if-from-eq0.true)
+room : (c : In-Some) → c.in-Some.from + 32 ≤ length c.args.key.now
+room c = let e = c.in-Some.ensures.place in rw e (place_inside _ _ _ (behind c))
+
+pub returns-in_default : goal.returns-in_default
+unfolding held_seed
+returns-in_default c = rw (sym c.in_default.ensures.held)
 
 pub overflow_add-result : goal.overflow_add-result
 overflow_add-result c = let inside = room c in omega arith
@@ -26,6 +31,6 @@ slice_bounds-result-end-2 c = room c
 pub returns : goal.returns
 returns c =
     let ks = c.args.key.now in
-    let e = c.held_seed_place-from.ensures in
+    let e = c.in-Some.ensures.place in
     let good = good_by_entries ks (λ i _. (c.type_inv.key i).fits) in
-    rw (add-sub_cancel_left, e) (seed_there _ _ _ good (λ z. c.if-from-eq0.false (e ∙ z)))
+    rw (add-sub_cancel_left, e) (seed_there _ _ _ good (behind (goal.at.returns c).In-Some))

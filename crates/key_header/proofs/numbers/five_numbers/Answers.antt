@@ -1,34 +1,27 @@
-use mathlib.Core.Path.{sym, ◌∙◌}
-use Prim.Native.Nat.{◌-◌}
+-- `key_header::numbers::five_numbers` meets its contract. Assumes nothing.
+use mathlib.Core.Bool.{false}
+use mathlib.Core.List.{List}
+use mathlib.Core.Path.{ap, ◌∙◌}
+use Prim.Native.Nat.{ℕ}
 use native.Mathlib.Omega.{arith}
-use Rattle.key_header.proofs.Reading.{Read, none_read, one_read, all_read, none_more}
-use borrow.Author.Rules.{rules}
+use lib.ListN.{length}
+use Rattle.std.proofs.lemmas.List.{set-get_or}
+use Rattle.key_header.proofs.Reading.{none_read, one_read, all_read, none_more}
 use Rattle.key_header.proofs.numbers.five_numbers.Goals as goal
 
-pub loop-read-init : goal.loop-read-init
-loop-read-init c = none_read _
+pub loop-value-init : goal.loop-value-init
+loop-value-init c = none_read _
 
+-- the value that was lent and not written is as it was
 pub returns-in_default : goal.returns-in_default
 returns-in_default c =
-    let l = c.loop-read in
-    none_more _ _ _ _ l.invariant (omega arith) (sym c.in_default.is ∙ c.number.ensures)
+    let long = length c.args.bytes.now in
+    ap (λ (values : List ℕ). record { whole = false; values = values; end = long }) (set-get_or c.loop-value.value-items c.loop-value.value-index 0)
+    ∙ none_more _ _ _ _ c.loop-value.invariant (omega (arith, c.loop-value.invariant.long)) c.in_default.ensures
 
-pub offset_bounds-values-read : goal.offset_bounds-values-read
-offset_bounds-values-read c = omega arith
-
-pub bounds-values-read : goal.bounds-values-read
-bounds-values-read c = omega arith
-
-pub overflow_add-read : goal.overflow_add-read
-overflow_add-read c = omega arith
-
-pub loop-read-smaller : goal.loop-read-smaller
-loop-read-smaller c = omega arith
-
-pub loop-read-preserved : goal.loop-read-preserved
-loop-read-preserved c =
-    let l = c.loop-read in
-    one_read _ _ _ _ _ _ l.invariant (omega arith) (sym c.in-Whole.is ∙ c.number.ensures)
+pub loop-value-preserved : goal.loop-value-preserved
+loop-value-preserved c =
+    one_read _ _ _ _ _ _ c.loop-value.invariant (omega (arith, c.loop-value.invariant.long)) c.in-Some.ensures
 
 pub returns : goal.returns
-returns c = all_read _ _ _ _ c.loop-read.invariant (omega arith)
+returns c = all_read _ _ _ _ c.loop-value.invariant (omega (arith, c.loop-value.invariant.long))

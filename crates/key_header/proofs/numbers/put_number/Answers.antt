@@ -11,10 +11,6 @@ use Rattle.keys.specs.Keys.{number_bytes}
 use Rattle.keys.proofs.Numbers.{one_group, two_groups, three_groups}
 use Rattle.writer.specs.Written.{Wrote}
 use Rattle.writer.proofs.Laws.{wrote_then}
-use borrow.Author.Rules.{rules}
-use Rattle.key_header.proofs.numbers.put_number.Reads as reads
-use Rattle.key_header.proofs.numbers.put_number.Lts as lts
-use Rattle.writer.proofs.put_byte.Reads as put-byte-reads
 use Rattle.key_header.proofs.numbers.put_number.Goals as goal
 
 -- how many groups a number takes, by the tests of the code

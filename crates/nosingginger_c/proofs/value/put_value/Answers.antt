@@ -2,8 +2,8 @@
 use Rattle.nosingginger_c.proofs.Pointers.{value_kept, value_written}
 use Rattle.nosingginger_c.proofs.value.put_value.Goals as goal
 
-pub returns-then-answer-ne-ACCEPTED : goal.returns-then-answer-ne-ACCEPTED
-returns-then-answer-ne-ACCEPTED c = value_kept _ _ _ c.if-answer-ne-ACCEPTED.true
+pub returns-then-refusal-ne0 : goal.returns-then-refusal-ne0
+returns-then-refusal-ne0 c = value_kept _ _ _ c.if-refusal-ne0.true
 
 pub returns : goal.returns
-returns c = value_written _ _ _ c.if-answer-ne-ACCEPTED.false
+returns c = value_written _ _ _ c.if-refusal-ne0.false

@@ -7,5 +7,5 @@ use Rattle.test_compare.proofs.calls.joining_program.Goals as goal
 pub slice_bounds-output-end : goal.slice_bounds-output-end
 slice_bounds-output-end c = joins_within _ _ _ _ _ _ c.joining_program-written.ensures
 
-pub slice_bounds-same-end : goal.slice_bounds-same-end
-slice_bounds-same-end c = sym (length-take-le _ _ (joins_within _ _ _ _ _ _ c.joining_program-written.ensures))
+pub slice_bounds-eq-end : goal.slice_bounds-eq-end
+slice_bounds-eq-end c = sym (length-take-le _ _ (joins_within _ _ _ _ _ _ c.joining_program-written.ensures))

@@ -1,10 +1,6 @@
 -- No count is above the number of cases passed.
-use Rattle.std.proofs.Common.{◌-◌, ◌≤◌}
+use Rattle.std.proofs.Common.{◌≤◌}
 use Rattle.test_compare.proofs.cases.compare.Given as goal
 
-abbrev pub invariant-loop-case : goal.invariant-loop-case
-invariant-loop-case g l =
-    (l.case ≤ l.count) × (l.tally.cases ≤ l.case) × (l.tally.refused ≤ l.case) × (l.tally.equal ≤ l.case)
-
-abbrev pub decreases-loop-case : goal.decreases-loop-case
-decreases-loop-case g l = l.count - l.case
+abbrev pub invariant-loop-number : goal.invariant-loop-number
+invariant-loop-number g l = (l.tally.cases ≤ l.number-counter) × (l.tally.refused ≤ l.number-counter) × (l.tally.equal ≤ l.number-counter)

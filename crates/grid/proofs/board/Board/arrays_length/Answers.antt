@@ -2,7 +2,6 @@
 use mathlib.Core.Path.{◌≡◌}
 use Prim.Native.Nat.{◌*◌}
 use native.Mathlib.Omega.{arith}
-use borrow.Author.Rules.{rules}
 use Rattle.grid.specs.Grid.{arrays_long}
 use Rattle.grid.specs.Code.{board_of}
 use Rattle.grid.proofs.Facts.{board_in}
@@ -15,4 +14,4 @@ returns c = rw (c.grid_rows.ensures, c.columns.ensures)
 pub overflow_mul-result : goal.overflow_mul-result
 overflow_mul-result c =
     let same : c.grid_rows.result * c.columns.result ≡ arrays_long (board_of c.args.self) = rw (c.grid_rows.ensures, c.columns.ensures) in
-    omega (arith, same, arrays_most _ (board_in _ c.requires))
+    omega (arith, same, arrays_most _ (board_in _ c.args.self.accepted))

@@ -1,13 +1,12 @@
 -- `Board::columns` meets its contract: an accepted board has 2 to 6 players.
 -- Assumes nothing.
-use borrow.Author.Rules.{rules}
 use Rattle.grid.specs.Grid.{board, columns}
 use Rattle.grid.proofs.Facts.{board_in}
 use Rattle.grid.proofs.board.Board.columns.Goals as goal
 
 pub columns_for-requires : goal.columns_for-requires
 unfolding board
-columns_for-requires c = let a = board_in _ c.requires in (a.players_least, a.players_most)
+columns_for-requires c = let a = board_in _ c.args.self.accepted in (a.players_least, a.players_most)
 
 pub returns : goal.returns
 unfolding board columns

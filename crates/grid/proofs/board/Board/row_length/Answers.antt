@@ -9,11 +9,11 @@ use Rattle.grid.proofs.board.Board.row_length.Goals as goal
 
 pub overflow_mul-result : goal.overflow_mul-result
 unfolding board row_long
-overflow_mul-result c = omega (arith, row_most _ (board_in _ c.requires))
+overflow_mul-result c = omega (arith, row_most _ (board_in _ c.args.self.accepted))
 
 pub overflow_cast-result : goal.overflow_cast-result
 unfolding board row_long
-overflow_cast-result c = omega (arith, row_most _ (board_in _ c.requires))
+overflow_cast-result c = omega (arith, row_most _ (board_in _ c.args.self.accepted))
 
 pub returns : goal.returns
 unfolding board row_long

@@ -2,7 +2,6 @@
 use mathlib.Core.Path.{◌≡◌}
 use Prim.Native.Nat.{◌*◌, ◌-◌}
 use native.Mathlib.Omega.{arith}
-use borrow.Author.Rules.{rules}
 use Rattle.grid.specs.Grid.{words_long}
 use Rattle.grid.specs.Code.{board_of}
 use Rattle.grid.proofs.Facts.{board_in, columns_pos}
@@ -18,4 +17,4 @@ overflow_sub-result c = omega (arith, c.columns.ensures, columns_pos (board_of c
 pub overflow_mul-result : goal.overflow_mul-result
 overflow_mul-result c =
     let same : (c.columns.result - 1) * c.row_length.result ≡ words_long (board_of c.args.self) = rw (c.columns.ensures, c.row_length.ensures) in
-    omega (arith, same, words_most _ (board_in _ c.requires))
+    omega (arith, same, words_most _ (board_in _ c.args.self.accepted))

@@ -1,6 +1,5 @@
 -- `key_header::numbers::Reader::number` meets its contract: each way out is a law of Reading, and every sum fits. Assumes nothing.
 use Rattle.key_header.proofs.Reading.{broken_past, one_group, zero_second, two_groups, zero_third, three_groups, four_groups}
-use borrow.Author.Rules.{rules}
 use Rattle.key_header.proofs.numbers.Reader.number.Goals as goal
 
 pub returns-then-third-lt128 : goal.returns-then-third-lt128

@@ -1,0 +1,9 @@
+-- The state of a seed. Assumes nothing.
+use Rattle.std.proofs.Common.{sym, ◌∙◌}
+use Rattle.xor.specs.Xor.{zeros}
+use Rattle.chacha20.proofs.Stream.{seed_state_is}
+use Rattle.chacha20_lane_blocks.proofs.fn.four_seeds.four_lanes.Goals as goal
+
+pub returns : goal.returns
+unfolding zeros
+returns c = c.initial_state.ensures ∙ sym (seed_state_is _ _)
