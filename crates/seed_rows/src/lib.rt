@@ -36,7 +36,10 @@ fn xor_four_blocks(seeds: &[u8; 128], at: usize, made: &mut [u8; 256], out: &mut
     }
 }
 
-// XORs the rows of four seeds from byte `start` on into `out`, block by block. `made` is room for four blocks.
+// XORs the rows of four seeds from byte `start` on into `out`, block by block. `made` is room for four blocks. A call of its own, whose room is free
+// again before the seeds that are left are gone through: unfolded in `xor_rows` it stays taken, and Open one and Draw card need more stack than
+// include/nosingginger.h says.
+#[inline(never)]
 fn xor_four(seeds: &[u8; 128], start: usize, made: &mut [u8; 256], out: &mut [u8])
     requires { start + length out.old ≤ 4096 }
     ensures { out.new ≡ xors out.old
