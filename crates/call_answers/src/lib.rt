@@ -7,6 +7,7 @@ ghost use Rattle.refusal.specs.Refusing.{answer_number};
 ghost use Rattle.call_answers.specs.Answers.{share_fits, width_refusal};
 
 use grid::board::{players_fit, positions_fit, value_bytes_fit, within};
+pub use grid::fault::Fault;
 use refusal::Refusal;
 
 // The most bytes of a share that is joined, and of a card.

@@ -10,7 +10,7 @@ use Rattle.keys.specs.Keys.{key_refusal}
 use Rattle.keys.proofs.Accepted.{next_fits}
 use Rattle.key_check.specs.declared.body.Body.{Body}
 use Rattle.open_key.specs.Opened.{table_of}
-use Rattle.open_key.proofs.Headed.{Read, board_is, table_is}
+use Rattle.open_key.proofs.Headed.{Read, board_is, table_by_rule}
 use Rattle.cards.specs.Cards.{picked}
 use Rattle.call_answers.specs.Answers.{draw_refusal, key_rule, DrawSays}
 use Rattle.call_answers.proofs.Answering.{put_number, put_done}
@@ -30,4 +30,4 @@ module _ (ks : List ℕ) (none : 0 ≡ key_refusal ks) (player : ℕ) (body : Bo
   unfolding DrawSays key_rule
   card_drawn r z long e same done is =
       put_done _ _ r o z (next_fits (key_refusal ks) _ (sym none) ∙ rw (← board_is ks player body read) (sym is) ∙ done) done
-      (e ∙ rw (same, table_is ks player body read))
+      (e ∙ rw (same, table_by_rule ks player body read))

@@ -31,7 +31,7 @@ board_by : {p n m w p' n' m' w' : ℕ} → p ≡ p' → n ≡ n' → m ≡ m' �
     → ◌≡◌ {A = Board} (record { p = p; n = n; wide = m; w = w }) (record { p = p'; n = n'; wide = m'; w = w' })
 board_by p n m w = cc
 
-boards_same : (b c : Board) → same_board b c ≡ true → b ≡ c
+pub boards_same : (b c : Board) → same_board b c ≡ true → b ≡ c
 unfolding same_board
 boards_same b c h =
     let p = eqb b.p c.p in

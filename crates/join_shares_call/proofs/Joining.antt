@@ -9,7 +9,7 @@ use Rattle.xor.specs.Xor.{xors, zeros}
 use Rattle.xor.proofs.Laws.{xors_comm}
 use Rattle.call_answers.specs.Answers.{joined_shares}
 
-shares_step : (w k : ℕ) (bs : List ℕ) → joined_shares (suc k) w bs ≡ xors (take w bs) (joined_shares k w (drop w bs))
+pub shares_step : (w k : ℕ) (bs : List ℕ) → joined_shares (suc k) w bs ≡ xors (take w bs) (joined_shares k w (drop w bs))
 unfolding joined_shares
 shares_step w k bs = refl
 

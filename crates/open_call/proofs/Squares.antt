@@ -13,7 +13,7 @@ use Rattle.keys.specs.Keys.{key_refusal, head_in, or_else}
 use Rattle.keys.proofs.Accepted.{next_fits}
 use Rattle.key_check.specs.declared.body.Body.{Body}
 use Rattle.open_key.specs.Opened.{square_of, table_of}
-use Rattle.open_key.proofs.Headed.{Read, board_is, square_is, table_is}
+use Rattle.open_key.proofs.Headed.{Read, board_is, square_by_rule, table_by_rule}
 use Rattle.call_answers.specs.Answers.{key_rule, OpenOneSays, OpenAllSays}
 use Rattle.call_answers.proofs.Answering.{put_number, put_done}
 use Rattle.call_answers.proofs.Weighing.{short, beyond, room_number, place_number}
@@ -44,7 +44,7 @@ module _ (ks : List ℕ) (none : 0 ≡ key_refusal ks) (player : ℕ) (body : Bo
     unfolding OpenOneSays key_rule
     one_opened r z square e same done due =
         put_done _ _ r o z (one_number ∙ sym due ∙ done) done
-        (e ∙ ap (λ (new : List ℕ). in_front new o) (square_is ks player body read square ∙ rw same))
+        (e ∙ ap (λ (new : List ℕ). in_front new o) (square_by_rule ks player body read square ∙ rw same))
 
   -- the number due behind Check key's: 9 for a short room
   abbrev all_due : ℕ
@@ -64,4 +64,4 @@ module _ (ks : List ℕ) (none : 0 ≡ key_refusal ks) (player : ℕ) (body : Bo
       z ≡ in_front (table_of (board_of body.board) (rule (board_of body.board)) body.bytes.now) o → r ≡ 0 → r ≡ all_due → OpenAllSays ks r o z
   unfolding OpenAllSays key_rule
   all_opened r z e done due =
-      put_done _ _ r o z (all_number ∙ sym due ∙ done) done (e ∙ ap (λ (new : List ℕ). in_front new o) (table_is ks player body read))
+      put_done _ _ r o z (all_number ∙ sym due ∙ done) done (e ∙ ap (λ (new : List ℕ). in_front new o) (table_by_rule ks player body read))

@@ -1,8 +1,9 @@
 -- A key that Check key accepts, and what is opened of what stands behind its header. Assumes nothing.
-use mathlib.Core.Path.{◌≡◌}
+use mathlib.Core.Path.{◌≡◌, ap, ◌∙◌}
 use mathlib.Core.List.{List}
 use Prim.Native.Nat.{ℕ}
 use Rattle.seed_rows.specs.Rows.{rule}
+use Rattle.grid.specs.Grid.{Board}
 use Rattle.grid.specs.Code.{board_of}
 use Rattle.keys.specs.Keys.{head_in, opened, parts_in, table}
 use Rattle.key_check.specs.declared.body.Body.{Body}
@@ -18,11 +19,18 @@ module _ (ks : List ℕ) (player : ℕ) (body : Body) (read : Read ks player bod
   pub board_is : board_of body.board ≡ (head_in ks).board
   board_is = read.1
 
-  -- a square and the table, by the board's rule
-  pub square_is : (a : ℕ) → square_of (board_of body.board) (rule (board_of body.board)) body.bytes.now a ≡ opened (rule (head_in ks).board) ks a
+  -- a square and the table, by every rule
+  pub square_is : (f : List ℕ → List ℕ) (a : ℕ) → square_of (board_of body.board) f body.bytes.now a ≡ opened f ks a
   unfolding opened square_of
-  square_is a = rw (read.2, board_is)
+  square_is f a = rw (read.2, board_is)
 
-  pub table_is : table_of (board_of body.board) (rule (board_of body.board)) body.bytes.now ≡ table (rule (head_in ks).board) ks
+  pub table_is : (f : List ℕ → List ℕ) → table_of (board_of body.board) f body.bytes.now ≡ table f ks
   unfolding table parts_in table_of
-  table_is = rw (read.2, board_is)
+  table_is f = rw (read.2, board_is)
+
+  -- and by the board's own
+  pub square_by_rule : (a : ℕ) → square_of (board_of body.board) (rule (board_of body.board)) body.bytes.now a ≡ opened (rule (head_in ks).board) ks a
+  square_by_rule a = square_is (rule (board_of body.board)) a ∙ ap (λ (b : Board). opened (rule b) ks a) board_is
+
+  pub table_by_rule : table_of (board_of body.board) (rule (board_of body.board)) body.bytes.now ≡ table (rule (head_in ks).board) ks
+  table_by_rule = table_is (rule (board_of body.board)) ∙ ap (λ (b : Board). table (rule b) ks) board_is

@@ -19,7 +19,7 @@ use Rattle.keys.specs.Keys.{or_else, key_refusal, head_in, table}
 use Rattle.keys.proofs.Accepted.{first_fits, next_fits}
 use Rattle.key_check.specs.declared.body.Body.{Body}
 use Rattle.open_key.specs.Opened.{table_of}
-use Rattle.open_key.proofs.Headed.{Read, table_is}
+use Rattle.open_key.proofs.Headed.{Read, table_by_rule}
 use Rattle.page.specs.Page.{entry_at}
 use Rattle.call_answers.specs.Answers.{key_rule, joined_shares}
 use Rattle.call_answers.proofs.Answering.{put_done, put_number}
@@ -67,7 +67,7 @@ module _ (t : Tally) (ks o : List ℕ) (none : 0 ≡ tally_refusal t (length o))
       added last k own_key kept now long =
           put_done _ _ 0 o _ (later ∙ ap (λ (f : Bool). cond f 0 23) own_key) refl
           (in_front_part (xors (take (tally_long t) o) (table (rule (head_in ks).board) ks)) last o k kept
-          (now ∙ rw (table_is ks player body read, long)))
+          (now ∙ rw (table_by_rule ks player body read, long)))
 
 -- LOOK UP AND TOTAL
 
