@@ -2,9 +2,9 @@
 use mathlib.Core.Path.{◌≡◌, refl}
 use mathlib.Core.Bool.{not}
 use mathlib.Core.List.{List}
-use Prim.Native.Nat.{ℕ, ◌*◌, ◌≤◌}
+use Prim.Native.Nat.{ℕ, ◌*◌, ◌≤◌, ◌<◌}
 use native.Mathlib.Omega.{arith}
-use borrow.Author.Tests.{eq-eqb, le-ltb, eqb-true, ltb-false, not-false}
+use borrow.Author.Tests.{eq-eqb, le-ltb, lt-ltb, eqb-true, ltb-false, not-false}
 use lib.Dec.{eqb, ltb}
 use lib.ListN.{length}
 use Rattle.std.specs.Prelude.{Result}
@@ -12,13 +12,21 @@ use Rattle.writer.specs.Written.{in_front}
 use Rattle.refusal.specs.Refusing.{refusal_number}
 use Rattle.refusal.specs.declared.Refusal.{Refusal}
 use Rattle.grid.specs.Grid.{positions_fit, value_fits}
-use Rattle.grid.proofs.Refusing.{In, in_range}
+use Rattle.grid.proofs.Refusing.{In, Out, in_range}
 use Rattle.keys.proofs.Accepted.{passed}
 use Rattle.page.specs.Page.{page, page_long, Pageable}
 use Rattle.call_answers.specs.Answers.{answer_told, page_refusal, PageSays}
 use Rattle.call_answers.proofs.Answering.{put_done, put_err, says_err, says_ok}
 
 module _ (n w l o : ℕ) where
+  pub page_4 : In 1 n 65536 → Out 1 w 16 → 4 ≡ page_refusal n w l o
+  unfolding page_refusal
+  page_4 positions bytes = simp (positions, bytes)
+
+  pub page_9 : In 1 n 65536 → In 1 w 16 → l ≡ n * w → o < page_long n w → 9 ≡ page_refusal n w l o
+  unfolding page_refusal
+  page_9 positions bytes long room = simp (positions, bytes, eq-eqb l (n * w) long, lt-ltb o (page_long n w) room)
+
   pub page_0 : In 1 n 65536 → In 1 w 16 → l ≡ n * w → page_long n w ≤ o → 0 ≡ page_refusal n w l o
   unfolding page_refusal
   page_0 positions bytes long room = simp (positions, bytes, eq-eqb l (n * w) long, le-ltb o (page_long n w) room)

@@ -2,9 +2,9 @@
 use mathlib.Core.Path.{◌≡◌, sym, ◌∙◌}
 use mathlib.Core.Bool.{not}
 use mathlib.Core.List.{List}
-use Prim.Native.Nat.{ℕ, zero, suc, ◌+◌, ◌*◌, ◌≤◌}
+use Prim.Native.Nat.{ℕ, zero, suc, ◌+◌, ◌*◌, ◌≤◌, ◌<◌}
 use native.Mathlib.Omega.{arith}
-use borrow.Author.Tests.{eq-eqb, le-ltb, eqb-true, ltb-false, not-false}
+use borrow.Author.Tests.{eq-eqb, le-ltb, lt-ltb, eqb-true, ltb-false, not-false}
 use lib.Dec.{eqb, ltb}
 use lib.ListN.{length, take, drop, length-drop}
 use lib.Seq.{length-take-le}
@@ -15,6 +15,10 @@ use Rattle.keys.proofs.Accepted.{passed}
 use Rattle.call_answers.specs.Answers.{share_fits, shares_refusal, joined_shares}
 
 module _ (p w l o : ℕ) where
+  pub shares_9 : In 2 p 6 → In 1 w 256 → l ≡ p * w → o < w → 9 ≡ shares_refusal p w l o
+  unfolding shares_refusal
+  shares_9 players bytes long room = simp (players, bytes, eq-eqb l (p * w) long, lt-ltb o w room)
+
   pub shares_0 : In 2 p 6 → In 1 w 256 → l ≡ p * w → w ≤ o → 0 ≡ shares_refusal p w l o
   unfolding shares_refusal
   shares_0 players bytes long room = simp (players, bytes, eq-eqb l (p * w) long, le-ltb o w room)

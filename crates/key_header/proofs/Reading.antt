@@ -363,20 +363,20 @@ module _ (ks : List ℕ) (f : Five) (read : f ≡ five_at ks) where
   unfolding five_at head_by_numbers heading_in header_of board
   heading_read h b i e = ap (λ (x : Board). told x h.player h.end) b ∙ rw (i, e) (rw (head_is ks, read))
 
--- all five, or 10
+-- all five numbers, or the refusal that stands for a broken one, whichever it is
 module _ (ks : List ℕ) (r : Result Read5 Read5) (read : five_of r ≡ five_at ks) where
-  pub one_broken : (refusal : Refusal) → Err refusal ≡ result_or r (Err Refusal.Number) → (refusal ≡ Refusal.Number) × ((five_at ks).whole ≡ false)
-  one_broken = go r read
+  pub one_broken : (broken refusal : Refusal) → Err refusal ≡ result_or r (Err broken) → (refusal ≡ broken) × ((five_at ks).whole ≡ false)
+  one_broken broken = go r read
     where
-      go : (s : Result Read5 Read5) → five_of s ≡ five_at ks → (refusal : Refusal) → Err refusal ≡ result_or s (Err Refusal.Number)
-          → (refusal ≡ Refusal.Number) × ((five_at ks).whole ≡ false)
+      go : (s : Result Read5 Read5) → five_of s ≡ five_at ks → (refusal : Refusal) → Err refusal ≡ result_or s (Err broken)
+          → (refusal ≡ broken) × ((five_at ks).whole ≡ false)
       go (Ok f) e refusal is = absurd (search rules)
       go (Err f) e refusal is = (search rules, ap (λ (five : Five). five.whole) (sym e))
 
-  pub all_five : (f : Read5) → Ok f ≡ result_or r (Err Refusal.Number) → five_of (Ok f) ≡ five_at ks
-  all_five = go r read
+  pub all_five : (broken : Refusal) (f : Read5) → Ok f ≡ result_or r (Err broken) → five_of (Ok f) ≡ five_at ks
+  all_five broken = go r read
     where
-      go : (s : Result Read5 Read5) → five_of s ≡ five_at ks → (f : Read5) → Ok f ≡ result_or s (Err Refusal.Number) → five_of (Ok f) ≡ five_at ks
+      go : (s : Result Read5 Read5) → five_of s ≡ five_at ks → (f : Read5) → Ok f ≡ result_or s (Err broken) → five_of (Ok f) ≡ five_at ks
       go (Ok g) e f is = let same : f ≡ g = search rules in rw same e
       go (Err g) e f is = absurd (search rules)
 

@@ -53,8 +53,8 @@ loop-player-preserved c =
     let l = c.loop-player in
     let b = board_of c.args.board in
     let table_is = key_table b _ c.args.keys.now (good loop) _ _ _ c.body_length.ensures (below turn.After-body_length) (within loop) (accepted loop) in
-    table_more c.args.board.players l.player _ b c.args.keys.now l.out _ c.key_length-long.ensures c.loop-player-test.true l.auto.player l.invariant
-    (c.add_table.ensures ∙ ap (λ (t : List ℕ). xors l.out t) table_is)
+    table_more c.args.board.players l.player _ b c.args.keys.now l.out _ c.key_length-long.ensures (omega (arith, c.loop-player-test.true)) l.auto.player
+    l.invariant (c.add_table.ensures ∙ ap (λ (t : List ℕ). xors l.out t) table_is)
 
 pub returns : goal.returns
 returns c =

@@ -20,12 +20,12 @@ use Rattle.program_deal.proofs.put_dealt.Goals.{In_ok-read, In_ok-board, In_ok-a
 
 -- the five numbers are there
 read : (c : In_ok-read) → five_of (Ok c.in_ok-read.read) ≡ five_at c.args.input.now
-read c = all_five _ _ c.five_numbers.ensures _ c.in_ok-read.ensures
+read c = all_five _ _ c.five_numbers.ensures _ _ c.in_ok-read.ensures
 
 pub returns-in_err-read : goal.returns-in_err-read
 returns-in_err-read c =
     let is : c.from_residual.result ≡ Err c.in_err-read.field-0.0 = search rules in
-    let broken = one_broken _ _ c.five_numbers.ensures _ c.in_err-read.ensures in
+    let broken = one_broken _ _ c.five_numbers.ensures _ _ c.in_err-read.ensures in
     rw (is, broken.0) (broken_input _ _ refl broken.1, refl)
 
 pub returns-in_err-board : goal.returns-in_err-board

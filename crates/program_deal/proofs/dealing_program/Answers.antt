@@ -1,0 +1,6 @@
+-- `program_deal::dealing_program` meets its contract: the output has the most bytes by its type. Assumes nothing.
+use native.Mathlib.Omega.{arith}
+use Rattle.program_deal.proofs.dealing_program.Goals as goal
+
+pub put_dealt-requires : goal.put_dealt-requires
+put_dealt-requires c = omega arith
