@@ -473,7 +473,7 @@ async function savedBy(page, button, name) {
     rmSync(saved, { force: true });
     await browser.saveTo(files);
     await page.click(button);
-    for (let times = 0; !existsSync(saved) && times < 200; times += 1) await new Promise((resolve) => { setTimeout(resolve, 25); });
+    for (let times = 0; !existsSync(saved) && times < 2000; times += 1) await new Promise((resolve) => { setTimeout(resolve, 25); });
     page.requests.splice(1);
     return saved;
 }
