@@ -1,4 +1,5 @@
 -- `join_shares_call::shares_refusal` meets its contract: 9 is the number where the output is shorter than a share. Assumes nothing.
+-- The check finds this alone; it stands here so that the edit join_room_of_one_more is refused with numbers and not where a search gives up.
 use native.Mathlib.Omega.{arith}
 use Rattle.grid.proofs.Refusing.{passed}
 use Rattle.call_answers.proofs.Sharing.{shares_9}

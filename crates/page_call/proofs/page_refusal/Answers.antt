@@ -1,4 +1,6 @@
 -- `page_call::page_refusal` meets its contract: 4 is the number of a width out of range, 9 where the output is shorter than the page. Assumes nothing.
+-- The check finds this alone; it stands here so that the edits page_7_and_4_swapped, page_of_a_longer_table and page_room_of_one_more are refused
+-- with numbers and not where a search gives up.
 use native.Mathlib.Omega.{arith}
 use Rattle.grid.proofs.Refusing.{passed, failed}
 use Rattle.call_answers.proofs.Paging.{page_4, page_9}
